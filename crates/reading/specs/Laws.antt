@@ -21,9 +21,9 @@ rule-of t m w = let s = after t (start-state t m) w in cond (eqb s 255) 255 (acc
 -- the kind and the mode that rule r gives an entry read in mode m; none, 255, makes it a fault
 abbrev pub Given : Tables → ℕ → ℕ → Entry → Type 0
 Given t m r e =
-  When (eqb r 255)
-  ((e .kind ≡ 0) × (e .length ≡ 1) × (e .mode ≡ m))
-  ((e .kind ≡ kind-of t r) × (e .mode ≡ next-mode t r))
+    When (eqb r 255)
+    ((e .kind ≡ 0) × (e .length ≡ 1) × (e .mode ≡ m))
+    ((e .kind ≡ kind-of t r) × (e .mode ≡ next-mode t r))
 
 -- e is the longest match at the front of xs in mode m: what is given is accepted, and no longer prefix is;
 -- where no prefix is accepted, it is a fault

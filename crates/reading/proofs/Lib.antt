@@ -1,0 +1,10 @@
+pub mod Greatest
+pub mod Local
+pub mod Path
+pub mod Longest
+pub mod Run
+pub mod Token
+pub mod Lists
+pub mod Lookback
+pub mod Batch
+pub mod Only
