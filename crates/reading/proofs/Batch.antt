@@ -7,7 +7,7 @@ use lib.ListN.{length, drop}
 use Rattle.books.specs.Tables.{Tables}
 use Rattle.books.specs.Sound.{Sound}
 use Rattle.reading.specs.Reading.{Entry, entry, token, read, start, at, lookback, with-lookback, listed, batch, kinds}
-use Rattle.reading.specs.Laws.{mode-before, Reads, Looks-back}
+use Rattle.reading.specs.Laws.{mode-before, Reads, Looks-back, total-length}
 use Rattle.reading.proofs.Token.{token-no-end}
 use Rattle.reading.proofs.Lists.{read-some, read-length, read-adds-up, read-each, read-end, read-modes, read-reads, mode-from-before}
 use Rattle.reading.proofs.Lookback.{length-listed, at-listed, kind-listed, start-listed, lookback-listed, mode-before-listed, total-listed, kinds-listed, looks-back-listed}
@@ -46,12 +46,17 @@ module _ (t : Tables) (b : Sound t) (xs : List ℕ) where
       ap₂ with-lookback (sym (lookback-listed es es 0 j)) (read-end t 0 xs j (omega (arith, len)) ∙ ap (λ m. entry 1 0 1 m 0) (mode-from-before es j ∙ sym (mode-before-listed es es 0 j)))
 
 -- a batch reading is a list of its text, from its first token through the one end token
+-- the lengths of all entries, added up, give the text's length
+pub batch-adds-up : (t : Tables) (xs : List ℕ) → total-length (batch t xs) ≡ length xs
+unfolding batch
+batch-adds-up t xs = total-listed (read t 0 0 xs) (read t 0 0 xs) 0 ∙ read-adds-up t 0 0 xs ∙ omega arith
+
 pub reads : (t : Tables) → Sound t → (xs : List ℕ) → Reads t xs (batch t xs)
 unfolding batch
 reads t b xs =
     let some : 1 ≤ length (all t b xs) = omega (arith, len t b xs, read-some t 0 0 xs) in
     record {
-      adds-up = total-listed (es t b xs) (es t b xs) 0 ∙ read-adds-up t 0 0 xs ∙ omega arith;
+      adds-up = batch-adds-up t xs;
       each = each t b xs;
       no-end = no-end t b xs;
       some = some;

@@ -1,0 +1,5 @@
+pub mod Questions
+pub mod Facts
+pub mod Rows
+pub mod Fronts
+pub mod Decides

@@ -1,0 +1,9 @@
+pub mod Derive
+pub mod Table
+pub mod Far
+pub mod Stuck
+pub mod States
+pub mod Heart
+pub mod TokenMeaning
+pub mod LineMeaning
+pub mod Sheets

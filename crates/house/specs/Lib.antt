@@ -1,0 +1,4 @@
+pub mod Patterns
+pub mod House
+pub mod Meaning
+pub mod Sheets

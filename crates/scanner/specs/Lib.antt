@@ -1,0 +1,4 @@
+pub mod Numbers
+pub mod Spots
+pub mod Scanned
+pub mod Answer
