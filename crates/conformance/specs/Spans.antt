@@ -1,12 +1,16 @@
--- What is compared: the kind and the length of each token.
+-- What is compared: the kind and the length of each token, the end token included.
 use mathlib.Core.List.{List, map}
-use Rattle.counts.specs.declared.ByteCount.{ByteCount}
-use Rattle.counts.specs.declared.TokenCount.{TokenCount}
-use Rattle.scanner.specs.declared.entries.Entry.{Entry}
+use Prim.Native.Nat.{ℕ}
+use Rattle.reading.specs.Reading.{Entry, batch}
+use Rattle.house.specs.House.{house-tokens}
 use Rattle.conformance.specs.declared.vectors.Span.{Span}
 
-abbrev pub span : Entry ByteCount TokenCount → Span
-span t = record { kind = t .kind; length = t .length .0 }
+abbrev pub span : Entry → Span
+span e = record { kind = e .kind; length = e .length }
 
-abbrev pub spans : List (Entry ByteCount TokenCount) → List Span
-spans ts = map span ts
+abbrev pub spans : List Entry → List Span
+spans es = map span es
+
+-- those of a sheet under the house token book
+abbrev pub spans-of : List ℕ → List Span
+spans-of sheet = spans (batch house-tokens sheet)

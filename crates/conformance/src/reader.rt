@@ -1,37 +1,43 @@
-// The tokens of a sheet under the house book, by the proved reader.
-use counts::ByteCount;
-use counts::TokenCount;
-use counts::TokensCount;
-use house::token_book;
-use scanner::EntryClone;
-use scanner::StoreBytes;
-use scanner::StoreSymbols;
+// Whether a sheet's tokens, by the proved reader, are those that are expected.
+ghost use mathlib.Core.Path.{_≡_};
+ghost use Rattle.std.specs.Of.Vec.{vec-items};
+ghost use Rattle.std.specs.Orderings.{Decides};
+ghost use Rattle.std.specs.Results.{Cases};
+ghost use Rattle.std.specs.Vec.{made};
+ghost use Rattle.counts.specs.declared.ByteCount.{ByteCount as Bytes};
+ghost use Rattle.scanner.specs.Numbers.{numbered};
+ghost use Rattle.conformance.specs.Spans.{spans as spans-in, spans-of};
+use crate::vectors::SameSpan;
+use crate::vectors::Span;
+use lister::LIMIT;
+use lister::tokens;
 use scanner::Token;
-use scanner::read_all;
+use std::alloc::AllocError;
 use std::alloc::Global;
 use std::error::AnyError;
-use text::GapStore;
-use text::GapText;
-use text::TextStore;
 
-const NO_TOKEN: Token = Token {
-    length: ByteCount(0),
-    reading: ByteCount(0),
-    lookback: TokenCount(0),
-    kind: 0,
-    mode: 0,
-};
-
-// All but the end token.
-pub(crate) fn tokens(heap: Global, sheet: &[u8]) -> Result<Vec<Token>, AnyError> {
-    let mut store = GapStore::new(vec![in heap; 0u8; sheet.len()]?);
-    if store.replace(ByteCount(0), ByteCount(0), sheet).is_err() {
-        return Err("the store refused a sheet".into());
+// Kinds and lengths of these tokens.
+fn spans(heap: Global, tokens: &[Token]) -> Result<Vec<Span>, AllocError>
+    ensures { λ r. ⌜ made r (λ v. vec-items v ≡ spans-in (numbered (λ c. c .0) (λ c. c .0) (now (tokens .entry)))) ⌝ }
+{
+    let mut all = Vec::new(heap);
+    for token in tokens {
+        all.push(Span {
+            kind: token.kind,
+            length: token.length.0,
+        })?;
     }
-    let mut tokens = vec![in heap; NO_TOKEN; sheet.len().saturating_add(1)]?;
-    let Some(count) = read_all(&token_book(), &StoreBytes(&store), &mut tokens) else {
-        return Err("no room for the tokens of a sheet".into());
-    };
-    tokens.truncate(count.0.saturating_sub(1));
-    Ok(tokens)
+    Ok(all)
+}
+
+// Has the sheet tokens of these kinds and lengths, one by one, and no others?
+pub(crate) fn agrees(heap: Global, sheet: &[u8], expected: &Vec<Span>) -> Result<bool, AnyError>
+    ensures { λ r. ⌜ Cases r (λ yes. Decides yes (spans-of (now (sheet .entry)) ≡ vec-items (now (expected .entry)))) (λ _. Unit {0}) ⌝ }
+{
+    if sheet.len() > LIMIT {
+        return Err("a sheet is too long".into());
+    }
+    let tokens = tokens(heap, sheet)?;
+    let found = spans(heap, tokens.as_slice())?;
+    Ok(found == *expected)
 }

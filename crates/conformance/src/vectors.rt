@@ -13,6 +13,9 @@ pub struct Span {
     pub length: usize,
 }
 
+// The end token's, which no line has.
+pub(crate) const END: Span = Span { kind: 1, length: 0 };
+
 pub impl PartialEq<Span> for Span as SameSpan {
     ghost equals = { λ a b r. Decides r (a ≡ b) };
 

@@ -1,8 +1,6 @@
 // Lists the tokens of a song sheet from standard input.
-mod list;
-
-use list::LIMIT;
-use list::list;
+use lister::LIMIT;
+use lister::list;
 use std::io;
 use std::io::Read;
 
@@ -11,6 +9,5 @@ fn main(rt: LibcRuntime) -> io::Result<()> {
     let mut sheet = Vec::new(heap);
     // one byte more than a sheet may have is enough to know that it is too long
     rt.stdin().take(LIMIT as u64 + 1).read_to_end(&mut sheet)?;
-    let text = list(heap, sheet.as_slice())?;
-    rt.print(text)
+    rt.print(list(heap, sheet.as_slice())?)
 }

@@ -27,8 +27,3 @@ rows-more es n =
     let line : ℕ → List ℕ = λ j. row (columns j (start es j) (at es j)) in
     joined-more line header (counting 0 n) n ∙ ap (λ ks. header ++ joined line ks) (sym (counting-more n))
 
-pub start-le : (es : List Entry) (i j : ℕ) → i ≤ j → start es i ≤ start es j
-start-le [] i j h = omega arith
-start-le (e ∷ es) zero j h = omega arith
-start-le (e ∷ es) (suc i) zero h = absurd (omega arith)
-start-le (e ∷ es) (suc i) (suc j) h = omega (arith, start-le es i j (omega arith))

@@ -7,9 +7,10 @@ use Rattle.std.specs.Of.String.{string-bytes}
 use Rattle.std.proofs.shelf.Lists.{length-map}
 use Rattle.reading.specs.Reading.{Entry, at, start}
 use Rattle.scanner.specs.Numbers.{numbers, numbered}
+use Rattle.reading.proofs.Lists.{start-up}
 use Rattle.scanner.proofs.Starts.{numbered-at, start-none, start-more}
 use Rattle.table.specs.Table.{row, columns, header, rows, table}
-use Rattle.table.proofs.Rows.{rows-none, rows-more, start-le}
+use Rattle.table.proofs.Rows.{rows-none, rows-more}
 use Rattle.table.proofs.tabulate.Given as given
 use Rattle.table.proofs.tabulate.Needs as need
 
@@ -31,7 +32,7 @@ add-start g c =
     let es = numbered (g .L·Count .number) (g .B·Count .number) (c .args .entries .now) in
     let j = c .loop-number .number in
     let within : j + 1 ≤ length (c .args .entries .now) = omega (arith, c .loop-number-test .taken) in
-    let bound = start-le es (j + 1) (length (c .args .entries .now)) within in
+    let bound = start-up es (j + 1) (length (c .args .entries .now)) within in
     let total : start es (length (c .args .entries .now)) < 2 ^ 64 = c .pre in
     record { fits = omega (arith, next g c, bound, total) }
 

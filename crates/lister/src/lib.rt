@@ -1,4 +1,4 @@
-// The text that the program prints.
+// Lists the tokens of a song sheet under the house token book.
 ghost use mathlib.Core.Path.{_≡_};
 ghost use Prim.Native.Nat.{_≤_};
 ghost use lib.ListN.{length};
@@ -9,7 +9,7 @@ ghost use Rattle.counts.specs.declared.ByteCount.{ByteCount as Bytes};
 ghost use Rattle.reading.specs.Reading.{batch};
 ghost use Rattle.scanner.specs.Numbers.{numbered};
 ghost use Rattle.house.specs.House.{house-tokens};
-ghost use Rattle.listing.specs.Listing.{listing};
+ghost use Rattle.lister.specs.Listing.{listing};
 use counts::ByteCount;
 use counts::BytesCount;
 use counts::TokenCount;
@@ -39,8 +39,8 @@ const BLANK: Token = Entry {
     mode: 0,
 };
 
-// The tokens of a sheet under the house token book.
-fn tokens(heap: Global, sheet: &[u8]) -> Result<Vec<Token>, AllocError>
+// The tokens of a sheet, through the end token.
+pub fn tokens(heap: Global, sheet: &[u8]) -> Result<Vec<Token>, AllocError>
     requires { ⌜ length (now sheet) ≤ 4096 ⌝ }
     ensures { λ r. ⌜ made r (λ v. numbered (λ c. c .0) (λ c. c .0) (vec-items v) ≡ batch house-tokens (now (sheet .entry))) ⌝ }
 {
@@ -66,4 +66,30 @@ pub fn list(heap: Global, sheet: &[u8]) -> Result<String, AllocError>
     }
     let tokens = tokens(heap, sheet)?;
     Ok(tabulate(heap, tokens.as_slice())?)
+}
+
+#[cfg(test)]
+mod tests {
+    use super::*;
+    use std::test::*;
+
+    #[test]
+    fn small_sheets(rt: LibcRuntime) -> Result<(), Fail> {
+        let heap = rt.alloc();
+        let empty = list(heap, b"")?;
+        check_eq(empty.as_str(), "    no  kind start   len  read  mode  back\n     0     1     0     0     1     0     0\n")?;
+        let chorus = list(heap, b"<la>\n*")?;
+        check_eq(chorus.as_str(), "    no  kind start   len  read  mode  back\n     0     8     0     6     6     0     0\n     1     1     6     0     1     0     0\n")
+    }
+
+    #[test]
+    fn longest_sheets(rt: LibcRuntime) -> Result<(), Fail> {
+        let heap = rt.alloc();
+        let mut sheet = vec![in heap; b'<'; LIMIT]?;
+        let brackets = list(heap, sheet.as_slice())?;
+        // a header, a fault for each bracket and the end token, 43 bytes each with its newline
+        check_eq(brackets.len(), 43 * (LIMIT + 2))?;
+        sheet.push(b'<')?;
+        check_eq(list(heap, sheet.as_slice())?.as_str(), "too long\n")
+    }
 }

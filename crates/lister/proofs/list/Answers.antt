@@ -13,8 +13,8 @@ use Rattle.reading.proofs.Lists.{start-within}
 use Rattle.house.specs.House.{house-tokens}
 use Rattle.scanner.specs.Numbers.{numbered}
 use Rattle.table.specs.Table.{table}
-use Rattle.listing.specs.Listing.{listing, too-long}
-use Rattle.listing.proofs.list.list.Needs as need
+use Rattle.lister.specs.Listing.{listing, too-long}
+use Rattle.lister.proofs.list.Needs as need
 
 pub returns-then-sheet-gt-LIMIT : need.returns-then-sheet-gt-LIMIT
 unfolding listing

@@ -6,7 +6,7 @@ use Rattle.std.proofs.shelf.Lists.{refilled-is}
 use Rattle.reading.specs.Reading.{batch}
 use Rattle.scanner.specs.Numbers.{numbered}
 use Rattle.text.specs.Replaced.{replaced}
-use Rattle.listing.proofs.list.tokens.Needs as need
+use Rattle.lister.proofs.tokens.Needs as need
 
 pub returns : need.returns
 returns c =
