@@ -13,7 +13,7 @@ use Rattle.std.proofs.shelf.Tests.{cases-lt, cond-true, cond-false, eq-eqb, ne-
 use Rattle.books.specs.Tables.{Tables}
 use Rattle.books.specs.Sound.{Sound}
 use Rattle.reading.specs.Reading.{Entry, read, batch, kinds}
-use Rattle.reading.specs.Report.{Edit, edit, Edited, Report, report, first, rejoin, rejoined}
+use Rattle.reading.specs.Report.{Edit, edit, Edited, Report, report, first, rejoin, rejoined, through, edit-above}
 use Rattle.reading.proofs.Lists.{length-kinds}
 use Rattle.reading.proofs.Batch.{batch-kinds}
 use Rattle.reading.proofs.Same.{batch-count}
@@ -77,10 +77,6 @@ module _ (e : Edit) (es fs : List Entry) (f k n : ℕ) (kept : Kept e es fs f k 
         back = drop-all (f + (n - f - 1)) (kinds fs) (omega (arith, length-kinds fs)) ∙ sym (drop-all (f + (k - f - 1)) (kinds es) (omega (arith, length-kinds es)));
       }
 
--- 1 where a report counts the end tokens, 0 where they are kept
-abbrev pub through : List Entry → Report → ℕ
-through new r = cond (eqb (r .first + r .«in») (length new)) 1 0
-
 module _ (t : Tables) (b : Sound t) (e : Edit) (xs ys : List ℕ) (d : Edited e xs ys) where
   abbrev old : List Entry
   old = batch t xs
@@ -115,7 +111,7 @@ module _ (t : Tables) (b : Sound t) (e : Edit) (xs ys : List ℕ) (d : Edited e 
       omega (arith, kept-count e (read t 0 0 xs) (read t 0 0 ys) f k n kept, kept .old-from, kept .new-from, batch-count t xs, batch-count t ys)
 
   -- the edit that the list above is corrected by
-  pub kinds-edited : Edited (edit (report old new e .first) (report old new e .out - through new (report old new e)) (report old new e .«in» - through new (report old new e))) (kinds old) (kinds new)
+  pub kinds-edited : Edited (edit-above new (report old new e)) (kinds old) (kinds new)
   unfolding report
   kinds-edited =
       let es = read t 0 0 xs in

@@ -75,6 +75,14 @@ report old new e =
     let k = rejoined old new e in
     record { first = f; out = k - f; «in» = n - f; tail = greatest (changed old new k n) (length new - n) }
 
+-- how many of the replaced entries were end entries: 1 where the report runs through them, else 0
+abbrev pub through : List Entry → Report → ℕ
+through new r = cond (eqb (r .first + r .«in») (length new)) 1 0
+
+-- the edit that a report is for the list above, whose symbols are the entries before the end entry
+abbrev pub edit-above : List Entry → Report → Edit
+edit-above new r = edit (r .first) (r .out - through new r) (r .«in» - through new r)
+
 -- The law of a report. In the new list the report covers in + tail entries from first on; every entry outside is the same in each field as
 -- before, and a kept one inside differs in its lookback alone.
 pub record Covers (old new : List Entry) (r : Report) : Type 0 where

@@ -1,0 +1,4 @@
+pub mod Asked
+pub mod Sheets
+pub mod Told
+pub mod Plain
