@@ -1,2 +1,5 @@
 pub mod Sums
 pub mod Runs
+pub mod Meets
+pub mod Gives
+pub mod Brings

@@ -2,16 +2,18 @@
 use mathlib.Core.Path.{_≡_, refl, sym, ap, ap₂, subst, _∙_}
 use mathlib.Core.Logic.{_⊎_, inl, inr}
 use mathlib.Core.List.{List, [], _∷_, _++_}
-use Prim.Native.Nat.{ℕ, _+_, _-_, _≤_, _<_}
+use Prim.Native.Nat.{ℕ, _+_, _-_, min, _≤_, _<_}
 use native.Mathlib.Nat.{add-zero}
 use native.Mathlib.Omega.{arith}
 use lib.ListN.{length, set, take, drop}
 use lib.Seq.{paste}
-use Rattle.std.proofs.shelf.Lists.{append-assoc, length-drop, length-take-le, take-more, take-more-set, take-at, take-take, take-map, drop-at, drop-map, drop-drop, drop-take, getD-drop, map-append, map-push, take-append-drop}
+use borrow.Rule.Slice.PartMut.{putMid, postOf}
+use Rattle.std.proofs.shelf.Lists.{append-assoc, length-append, length-drop, length-take-le, take-more, take-more-set, take-at, take-take, take-map, drop-at, drop-map, drop-drop, drop-take, getD-drop, take-append-le, take-all, take-rest, map-append, map-push, take-append-drop}
+use Rattle.std.proofs.shelf.Tests.{cases-lt}
 use Rattle.books.specs.Tables.{Tables}
-use Rattle.reading.specs.Reading.{Entry, read, none, at}
+use Rattle.reading.specs.Reading.{Entry, token, read, none, at}
 use Rattle.reading.proofs.Lists.{read-none, read-more}
-use Rattle.reading.proofs.Token.{token-within}
+use Rattle.reading.proofs.Token.{token-within, token-reading-within}
 use Rattle.scanner.specs.declared.entries.Entry.{Entry as Record}
 use Rattle.scanner.specs.Numbers.{numbers, numbered}
 use Rattle.scanner.specs.Scanned.{scanned}
@@ -30,6 +32,21 @@ scanned-long t m (y ∷ ys) = token-within t m (y ∷ ys) (omega arith)
 -- no scan goes past the end of the text
 pub scanned-within : (t : Tables) (m p : ℕ) (xs : List ℕ) → scanned t m (drop p xs) .length ≤ length xs - p
 scanned-within t m p xs = omega (arith, scanned-long t m (drop p xs), length-drop p xs)
+
+scanned-reads : (t : Tables) (m : ℕ) (ys : List ℕ) → scanned t m ys .reading ≤ length ys + 1
+scanned-reads t m [] = omega arith
+scanned-reads t m (y ∷ ys) = token-reading-within t m (y ∷ ys)
+
+pub scanned-reach : (t : Tables) (m p : ℕ) (xs : List ℕ) → p ≤ length xs → p + scanned t m (drop p xs) .reading ≤ length xs + 1
+scanned-reach t m p xs h = omega (arith, scanned-reads t m (drop p xs), length-drop p xs)
+
+scanned-is : (t : Tables) (m : ℕ) (ys : List ℕ) → 0 < length ys → scanned t m ys ≡ token t m ys
+scanned-is t m [] h = absurd (omega arith)
+scanned-is t m (y ∷ ys) h = refl
+
+-- before the end of the text a scan gives a token
+pub scanned-token : (t : Tables) (m p : ℕ) (xs : List ℕ) → p < length xs → scanned t m (drop p xs) ≡ token t m (drop p xs)
+scanned-token t m p xs h = scanned-is t m (drop p xs) (omega (arith, length-drop p xs))
 
 -- one entry more of a reading that is known from entry i on
 module _ (t : Tables) (m p : ℕ) (xs : List ℕ) (fresh : List Entry) (i : ℕ) (known : drop i fresh ≡ read t m 0 (drop p xs)) where
@@ -67,12 +84,12 @@ module _ {L B : Type 0} (l : L → ℕ) (b : B → ℕ) (t : Tables) (codes : Li
       record {
         rest = left before part n x (r .rest);
         written = λ h.
-          ap (numbered l b) (take-more-set part n x room) ∙ map-push (numbers l b) (take n part) x ∙
-          ap₂ (λ es e. es ++ e ∷ []) (r .written h) (is-here ∙ sym (run-at t mode here codes fresh n (r .on (omega arith)))) ∙
-          sym (take-more fresh n none (omega arith));
+            ap (numbered l b) (take-more-set part n x room) ∙ map-push (numbers l b) (take n part) x ∙
+            ap₂ (λ es e. es ++ e ∷ []) (r .written h) (is-here ∙ sym (run-at t mode here codes fresh n (r .on (omega arith)))) ∙
+            sym (take-more fresh n none (omega arith));
         on = λ h.
-          run-on t mode here codes fresh n (r .on (omega arith)) h ∙
-          ap₂ (λ m p. read t m 0 (drop p codes)) (sym (ap (λ e. e .mode) is-here)) (sym extent);
+            run-on t mode here codes fresh n (r .on (omega arith)) h ∙
+            ap₂ (λ m p. read t m 0 (drop p codes)) (sym (ap (λ e. e .mode) is-here)) (sym extent);
       }
 
   -- at the end, with the place by another name
@@ -113,3 +130,48 @@ spliced-part l b fresh before moved after out added kept h move rest written =
     sym (ap (take kept) (drop-map (numbers l b) out before) ∙ take-map (numbers l b) kept (drop out before)) in
     ap (numbered l b) split ∙ map-append (numbers l b) (take added after) (take kept (drop added after)) ∙
     ap₂ (λ x y. x ++ y) written (ap (λ es. numbered l b (take kept es)) rest ∙ ap (numbered l b) move ∙ kept-numbers)
+
+-- The same in the whole memory, of which the part from f on was lent and is now `part`
+module _ {L B : Type 0} (l : L → ℕ) (b : B → ℕ) (memory part : List (Record L B)) (f : ℕ) (long : length part ≡ length memory - f) (there : f ≤ length memory) where
+  abbrev whole : List (Record L B)
+  whole = putMid f (length memory - f) memory part
+
+  front : length (take f memory) ≡ f
+  front = length-take-le f memory there
+
+  pub whole-front : take f whole ≡ take f memory
+  whole-front = take-at (take f memory) (part ++ postOf f (length memory - f) memory) f front
+
+  pub length-whole : length whole ≡ length memory
+  length-whole =
+      let past : length (postOf f (length memory - f) memory) ≡ 0 = omega (arith, length-drop (length memory - f) (drop f memory), length-drop f memory) in
+      omega (arith, length-append (take f memory) (part ++ postOf f (length memory - f) memory), length-append part (postOf f (length memory - f) memory), past, front)
+
+  pub whole-put : (fresh : List Entry) (added kept out k count entries : ℕ) → f + out ≡ k → k + kept ≡ count → f + (added + kept) ≡ entries → added + kept ≤ length part →
+      numbered l b (take (added + kept) part) ≡ take added fresh ++ take kept (drop out (numbered l b (take (length memory - f) (drop f memory)))) →
+      numbered l b (take entries whole) ≡ take f (numbered l b (take count memory)) ++ (take added fresh ++ drop k (numbered l b (take count memory)))
+  whole-put fresh added kept out k count entries k-is count-is entries-is room is =
+      let head : numbered l b (take f memory) ≡ take f (numbered l b (take count memory)) =
+      ap (numbered l b) (sym (take-take f count memory (omega arith))) ∙ sym (take-map (numbers l b) f (take count memory)) in
+      let tail : take kept (drop out (numbered l b (take (length memory - f) (drop f memory)))) ≡ drop k (numbered l b (take count memory)) =
+      ap (λ es. take kept (drop out (numbered l b es))) (take-rest memory f) ∙ ap (take kept) (drop-map (numbers l b) out (drop f memory)) ∙
+      take-map (numbers l b) kept (drop out (drop f memory)) ∙ ap (λ es. numbered l b (take kept es)) (drop-drop out f memory ∙ ap (λ i. drop i memory) k-is) ∙
+      ap (numbered l b) (sym (drop-take k kept memory)) ∙ sym (drop-map (numbers l b) k (take (k + kept) memory)) ∙ ap (λ i. drop k (numbered l b (take i memory))) count-is in
+      ap (λ i. numbered l b (take i whole)) (sym entries-is) ∙ ap (numbered l b) (take-split f (added + kept) whole) ∙
+      map-append (numbers l b) (take f whole) (take (added + kept) (drop f whole)) ∙
+      ap₂ (λ x y. x ++ y) (ap (numbered l b) whole-front ∙ head)
+      (ap (λ es. numbered l b (take (added + kept) es)) (drop-at (take f memory) (part ++ postOf f (length memory - f) memory) f front) ∙
+      ap (numbered l b) (take-append-le (added + kept) part (postOf f (length memory - f) memory) room) ∙ is ∙ ap (λ es. take added fresh ++ es) tail)
+
+  -- and its front, after the first `entries` records were lent and are now `given`
+  pub whole-head : (given : List (Record L B)) (entries m : ℕ) → length given ≡ entries → f ≤ entries → m ≡ f → take m given ≡ take m (take entries whole) →
+      take m (given ++ postOf 0 entries whole) ≡ take m memory
+  whole-head given entries m size within same head =
+      take-append-le m given (postOf 0 entries whole) (omega arith) ∙ head ∙ take-take m entries whole (omega arith) ∙ ap (λ i. take i whole) same ∙ whole-front ∙ ap (λ i. take i memory) (sym same)
+
+pub take-min : {A : Type 0} (n : ℕ) (xs : List A) → take (min n (length xs)) xs ≡ take n xs
+take-min n xs =
+    elim (cases-lt n (length xs)) [
+      | inl h ↦ ap (λ i. take i xs) (omega arith)
+      | inr h ↦ take-all (min n (length xs)) xs (omega arith) ∙ sym (take-all n xs h)
+    ]

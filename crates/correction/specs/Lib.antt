@@ -1,2 +1,5 @@
 pub mod Boundaries
 pub mod Walks
+pub mod Lookbacks
+pub mod Plans
+pub mod Promise

@@ -27,12 +27,11 @@ pub record Met (t : Tables) (e : report.Edit) (xs ys : List ℕ) (old : List Ent
 abbrev pub Within : List Entry → ℕ → ℕ → ℕ → Type 0
 Within es from to limit = (i : ℕ) → from ≤ i → i < to → reach es i ≤ limit
 
--- A walk has found the rejoin: behind `added` new entries, at old entry k. Where entries are kept, no new entry before them reaches further
--- than the limit, and no old one further than what the limit was before the edit
+-- A walk has found the rejoin: behind `added` new entries, at old entry k. No new entry before it reaches further than the limit, nor, where entries
+-- are kept, an old one further than the limit lay before the edit
 pub record Walked (t : Tables) (e : report.Edit) (xs ys : List ℕ) (added k limit : ℕ) : Type 0 where
   pub rejoin : report.rejoin (batch t xs) (batch t ys) e ≡ report.first (batch t xs) (e .place) + added
   pub rejoined : report.rejoined (batch t xs) (batch t ys) e ≡ k
-  pub new-reach : report.first (batch t xs) (e .place) + added < length (batch t ys) →
-      Within (batch t ys) (report.first (batch t xs) (e .place)) (report.first (batch t xs) (e .place) + added) limit
+  pub new-reach : Within (batch t ys) (report.first (batch t xs) (e .place)) (report.first (batch t xs) (e .place) + added) limit
   pub old-reach : report.first (batch t xs) (e .place) + added < length (batch t ys) →
       (o : ℕ) × Within (batch t xs) (report.first (batch t xs) (e .place)) k o × (o + e .inserted ≤ limit + e .cut)

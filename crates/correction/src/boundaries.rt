@@ -17,6 +17,20 @@ pub(crate) struct Boundary<L, B> {
     pub(crate) mode: u8,
 }
 
+impl<L: Count, B: Count> Boundary<L, B> {
+    pub(crate) fn index(&self) -> usize
+        ensures { λ r. ⌜ r ≡ B·Count .number (now (self .entry) .number) ⌝ }
+    {
+        self.number.get()
+    }
+
+    pub(crate) fn place(&self) -> usize
+        ensures { λ r. ⌜ r ≡ L·Count .number (now (self .entry) .start) ⌝ }
+    {
+        self.start.get()
+    }
+}
+
 // The boundary that entries were passed up to, and how far those read.
 #[derive(Clone, Copy)]
 pub(crate) struct Passage<L, B> {
@@ -52,7 +66,9 @@ pub(crate) fn pass<L: Count, B: Count>(
     from: Passage<L, B>,
     place: L,
 ) -> Passage<L, B>
-    ensures { λ r. ⌜ (Fit (numbered (L·Count .number) (B·Count .number) (now (entries .entry))) → Stands (L·Count .number) (B·Count .number) (numbered (L·Count .number) (B·Count .number) (now (entries .entry))) (from .to) → Stands (L·Count .number) (B·Count .number) (numbered (L·Count .number) (B·Count .number) (now (entries .entry))) (r .to) × Passes (numbered (L·Count .number) (B·Count .number) (now (entries .entry))) (B·Count .number (from .to .number)) (B·Count .number (r .to .number)) (L·Count .number place) (L·Count .number (from .reach)) (L·Count .number (r .reach))) ⌝ }
+    ensures on { λ r. ⌜ B·Count .number (from .to .number) ≤ B·Count .number (r .to .number) ⌝ }
+    ensures within { λ r. ⌜ (B·Count .number (from .to .number) ≤ length (now (entries .entry)) → B·Count .number (r .to .number) ≤ length (now (entries .entry))) ⌝ }
+    ensures passes { λ r. ⌜ (Fit (numbered (L·Count .number) (B·Count .number) (now (entries .entry))) → Stands (L·Count .number) (B·Count .number) (numbered (L·Count .number) (B·Count .number) (now (entries .entry))) (from .to) → Stands (L·Count .number) (B·Count .number) (numbered (L·Count .number) (B·Count .number) (now (entries .entry))) (r .to) × Passes (numbered (L·Count .number) (B·Count .number) (now (entries .entry))) (B·Count .number (from .to .number)) (B·Count .number (r .to .number)) (L·Count .number place) (L·Count .number (from .reach)) (L·Count .number (r .reach))) ⌝ }
 {
     let place = place.get();
     let mut number = from.to.number.get();

@@ -1,9 +1,12 @@
 // Re-reading after a correction, written once for symbols of every kind.
 mod boundaries;
+mod correct;
 mod edits;
+mod lookbacks;
 mod splices;
 mod walks;
 
+pub use correct::reread;
 pub use edits::Edit;
 pub use edits::EditClone;
 pub use edits::EditDebug;
@@ -14,3 +17,8 @@ pub use edits::ReportClone;
 pub use edits::ReportDebug;
 pub use edits::ReportEq;
 pub use edits::ReportPartialEq;
+pub use edits::Reread;
+pub use edits::RereadClone;
+pub use edits::RereadDebug;
+pub use edits::RereadEq;
+pub use edits::RereadPartialEq;

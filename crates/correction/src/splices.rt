@@ -29,15 +29,15 @@ fn write_run<S: Symbols, B: Count>(
     book: &Book,
     symbols: &S,
     part: &mut [Entry<S::Place, B>],
-    from: Boundary<S::Place, B>,
+    from: &Boundary<S::Place, B>,
     added: usize,
 )
     requires fit { ⌜ length (S·Symbols .codes (now symbols)) + 1 < 2 ^ 64 ⌝ }
     requires within { ⌜ added ≤ length (now part) ⌝ }
-    ensures written { λ _. ⌜ (added ≤ length (read (tables (now (book .entry))) (from .mode) 0 (drop (Place·Count .number (from .start)) (S·Symbols .codes (now (symbols .entry))))) → numbered (Place·Count .number) (B·Count .number) (take added (now (part .exit))) ≡ take added (read (tables (now (book .entry))) (from .mode) 0 (drop (Place·Count .number (from .start)) (S·Symbols .codes (now (symbols .entry)))))) ⌝ }
+    ensures written { λ _. ⌜ (added ≤ length (read (tables (now (book .entry))) (now (from .entry) .mode) 0 (drop (Place·Count .number (now (from .entry) .start)) (S·Symbols .codes (now (symbols .entry))))) → numbered (Place·Count .number) (B·Count .number) (take added (now (part .exit))) ≡ take added (read (tables (now (book .entry))) (now (from .entry) .mode) 0 (drop (Place·Count .number (now (from .entry) .start)) (S·Symbols .codes (now (symbols .entry)))))) ⌝ }
     ensures rest { λ _. ⌜ drop added (now (part .exit)) ≡ drop added (now (part .entry)) ⌝ }
 {
-    let mut place = from.start.get();
+    let mut place = from.place();
     let mut mode = from.mode;
     for number in 0..added {
         let token = scan(book, symbols, S::Place::of(place), mode);
@@ -52,7 +52,7 @@ pub(crate) fn splice<S: Symbols, B: Count>(
     book: &Book,
     symbols: &S,
     part: &mut [Entry<S::Place, B>],
-    from: Boundary<S::Place, B>,
+    from: &Boundary<S::Place, B>,
     out: usize,
     added: usize,
     kept: usize,
@@ -60,7 +60,7 @@ pub(crate) fn splice<S: Symbols, B: Count>(
     requires fit { ⌜ length (S·Symbols .codes (now symbols)) + 1 < 2 ^ 64 ⌝ }
     requires old { ⌜ out + kept ≤ length (now part) ⌝ }
     requires new { ⌜ added + kept ≤ length (now part) ⌝ }
-    ensures { λ _. ⌜ (added ≤ length (read (tables (now (book .entry))) (from .mode) 0 (drop (Place·Count .number (from .start)) (S·Symbols .codes (now (symbols .entry))))) → numbered (Place·Count .number) (B·Count .number) (take (added + kept) (now (part .exit))) ≡ take added (read (tables (now (book .entry))) (from .mode) 0 (drop (Place·Count .number (from .start)) (S·Symbols .codes (now (symbols .entry))))) ++ take kept (drop out (numbered (Place·Count .number) (B·Count .number) (now (part .entry))))) ⌝ }
+    ensures { λ _. ⌜ (added ≤ length (read (tables (now (book .entry))) (now (from .entry) .mode) 0 (drop (Place·Count .number (now (from .entry) .start)) (S·Symbols .codes (now (symbols .entry))))) → numbered (Place·Count .number) (B·Count .number) (take (added + kept) (now (part .exit))) ≡ take added (read (tables (now (book .entry))) (now (from .entry) .mode) 0 (drop (Place·Count .number (now (from .entry) .start)) (S·Symbols .codes (now (symbols .entry))))) ++ take kept (drop out (numbered (Place·Count .number) (B·Count .number) (now (part .entry))))) ⌝ }
 {
     move_kept(part, out, added, kept);
     write_run(book, symbols, part, from, added);

@@ -1,6 +1,8 @@
 // The walk of a correction: new entries are read, and old ones passed, until the two readings meet. Nothing is written.
 ghost use mathlib.Core.Path.{_≡_};
 ghost use mathlib.Core.List.{List};
+ghost use mathlib.Core.Bool.{_&&_};
+ghost use lib.Dec.{eqb, ltb};
 ghost use Prim.Native.Nat.{ℕ, _+_, _-_, _^_, _<_, _≤_};
 ghost use lib.ListN.{length};
 ghost use Rattle.books.specs.Meaning.{tables};
@@ -27,6 +29,20 @@ pub(crate) struct Meeting<L, B> {
     pub(crate) reach: L,
 }
 
+impl<L: Count, B: Count> Meeting<L, B> {
+    pub(crate) fn read_again(&self) -> usize
+        ensures { λ r. ⌜ r ≡ B·Count .number (now (self .entry) .added) ⌝ }
+    {
+        self.added.get()
+    }
+
+    pub(crate) fn kept_from(&self) -> usize
+        ensures { λ r. ⌜ r ≡ B·Count .number (now (self .entry) .old) ⌝ }
+    {
+        self.old.get()
+    }
+}
+
 impl<L: Count> Edit<L> {
     // Where a place behind what was inserted lay before the edit.
     fn old_place(self, here: usize) -> L
@@ -37,13 +53,76 @@ impl<L: Count> Edit<L> {
         L::of(place.saturating_add(self.cut.get()).saturating_add(behind))
     }
 
-    // Where a place behind what was cut lies after the edit.
+    // Where a place behind what was cut lies after the edit: as far as that fits a number, no place up to there comes to lie further.
     fn new_place(self, there: L) -> usize
-        ensures { λ r. ⌜ (L·Count .number there + L·Count .number (self .inserted) - L·Count .number (self .cut) < 2 ^ 64 → L·Count .number there + L·Count .number (self .inserted) - L·Count .number (self .cut) ≡ r) ⌝ }
+        ensures { λ r. ⌜ ((p : ℕ) → p ≤ L·Count .number there → p + L·Count .number (self .inserted) < 2 ^ 64 + L·Count .number (self .cut) → p + L·Count .number (self .inserted) ≤ r + L·Count .number (self .cut)) ⌝ }
     {
         let cut = self.cut.get();
         let inserted = self.inserted.get();
         let grown = there.get().saturating_add(inserted.saturating_sub(cut));
         grown.saturating_sub(cut.saturating_sub(inserted))
+    }
+}
+
+// Whether an entry starts at the place and is read in the mode.
+fn is_kept<L: Count, B: Count>(
+    entries: &[Entry<L, B>],
+    old: Boundary<L, B>,
+    place: L,
+    mode: u8,
+) -> bool
+    ensures { λ r. ⌜ r ≡ (ltb (B·Count .number (old .number)) (length (now (entries .entry))) && (eqb (L·Count .number (old .start)) (L·Count .number place) && eqb (old .mode) mode)) ⌝ }
+{
+    old.number.get() < entries.len() && old.start.get() == place.get() && old.mode == mode
+}
+
+// Reads on from a boundary until the readings meet, or through the end token.
+pub(crate) fn walk<S: Symbols, B: Count>(
+    book: &Book,
+    symbols: &S,
+    entries: &[Entry<S::Place, B>],
+    edit: Edit<S::Place>,
+    from: &Boundary<S::Place, B>,
+) -> Meeting<S::Place, B>
+    requires fit { ⌜ length (S·Symbols .codes (now symbols)) + 1 < 2 ^ 64 ⌝ }
+    requires place { ⌜ Place·Count .number (now from .start) ≤ length (S·Symbols .codes (now symbols)) ⌝ }
+    requires there { ⌜ B·Count .number (now from .number) ≤ length (now entries) ⌝ }
+    ensures added { λ r. ⌜ B·Count .number (r .added) ≤ length (S·Symbols .codes (now (symbols .entry))) + 1 ⌝ }
+    ensures on { λ r. ⌜ B·Count .number (now (from .entry) .number) ≤ B·Count .number (r .old) ⌝ }
+    ensures within { λ r. ⌜ B·Count .number (r .old) ≤ length (now (entries .entry)) ⌝ }
+    ensures walked { λ r. ⌜ ((xs : List ℕ) (room : ℕ) → room < 2 ^ 64 → Met (tables (now (book .entry))) (edit-of (Place·Count .number) edit) xs (S·Symbols .codes (now (symbols .entry))) (numbered (Place·Count .number) (B·Count .number) (now (entries .entry))) room → B·Count .number (now (from .entry) .number) ≡ earliest (numbered (Place·Count .number) (B·Count .number) (now (entries .entry))) (Place·Count .number (edit .place)) → Stands (Place·Count .number) (B·Count .number) (numbered (Place·Count .number) (B·Count .number) (now (entries .entry))) (now (from .entry)) → Walked (tables (now (book .entry))) (edit-of (Place·Count .number) edit) xs (S·Symbols .codes (now (symbols .entry))) (B·Count .number (r .added)) (B·Count .number (r .old)) (Place·Count .number (r .reach))) ⌝ }
+{
+    let length = symbols.count().get();
+    let behind = edit.place.get().saturating_add(edit.inserted.get());
+    let mut old = Passage {
+        to: *from,
+        reach: S::Place::of(0),
+    };
+    let mut here = from.place();
+    let mut mode = from.mode;
+    let mut added = 0;
+    let mut reach = 0;
+    loop {
+        let there = edit.old_place(here);
+        old = pass(entries, old, there);
+        if behind <= here && is_kept(entries, old.to, there, mode) {
+            return Meeting {
+                added: B::of(added),
+                old: old.to.number,
+                reach: S::Place::of(edit.new_place(old.reach).max(reach)),
+            };
+        }
+        added += 1;
+        if here >= length {
+            return Meeting {
+                added: B::of(added),
+                old: B::of(entries.len()),
+                reach: S::Place::of(reach.max(here + 1)),
+            };
+        }
+        let token: Entry<S::Place, B> = scan(book, symbols, S::Place::of(here), mode);
+        reach = reach.max(here + token.reading.get());
+        here += token.length.get();
+        mode = token.mode;
     }
 }

@@ -19,10 +19,10 @@ pub loop-number-again : need.loop-number-again
 loop-number-again g c =
     let codes = g .S·Symbols .codes (c .args .symbols .now) in
     let long = scanned-within (tables (c .args .book .now)) (c .loop-number .mode) (g .Place·Count .number (c .of .result)) codes in
-    let small : c .loop-number .place + c .get-place-in-loop-number .result < 2 ^ 64 = omega (arith, long, ap (λ e. e .length) (c .scan-token .ensures .value)) in
-    (small, running-more (g .Place·Count .number) (g .B·Count .number) _ _ _ _ (c .loop-number .part) (c .args .added) (c .loop-number .number) (c .loop-number .place) (c .loop-number .mode) (g .Place·Count .number (c .of .result)) (c .loop-number .inv .1) (omega arith) (omega arith) (c .scan-token .result) (c .get-place-in-loop-number .result) (c .of .ensures) (c .scan-token .ensures .value) (c .get-place-in-loop-number .ensures))
+    let small : c .loop-number .place + c .get-place .result < 2 ^ 64 = omega (arith, long, ap (λ e. e .length) (c .scan-token .ensures .value)) in
+    (small, running-more (g .Place·Count .number) (g .B·Count .number) _ _ _ _ (c .loop-number .part) (c .args .added) (c .loop-number .number) (c .loop-number .place) (c .loop-number .mode) (g .Place·Count .number (c .of .result)) (c .loop-number .inv .1) (omega arith) (omega arith) (c .scan-token .result) (c .get-place .result) (c .of .ensures) (c .scan-token .ensures .value) (c .get-place .ensures))
 
 pub returns : need.returns
 returns g c =
-    let all : Ran _ _ _ _ _ _ _ _ _ _ = running-all (g .Place·Count .number) (g .B·Count .number) _ _ _ _ (c .loop-number .part) (c .args .added) (c .loop-number .number) (c .loop-number .place) (c .loop-number .mode) (c .args .from .mode) (c .get-place .result) (g .Place·Count .number (c .args .from .start)) (c .loop-number .inv .1) (omega arith) refl (c .get-place .ensures) in
+    let all : Ran _ _ _ _ _ _ _ _ _ _ = running-all (g .Place·Count .number) (g .B·Count .number) _ _ _ _ (c .loop-number .part) (c .args .added) (c .loop-number .number) (c .loop-number .place) (c .loop-number .mode) (c .args .from .now .mode) (c .place-place .result) (g .Place·Count .number (c .args .from .now .start)) (c .loop-number .inv .1) (omega arith) refl (c .place-place .ensures) in
     record { written = all .written; rest = all .rest }

@@ -1,0 +1,5 @@
+mod Within
+mod Sums
+mod Stamps
+mod Compared
+mod Copied
