@@ -32,7 +32,7 @@ impl<L: Count, B: Count> Boundary<L, B> {
 }
 
 // The boundary that entries were passed up to, and how far those read.
-#[derive(Clone, Copy)]
+#[derive(Drop)]
 pub(crate) struct Passage<L, B> {
     pub(crate) to: Boundary<L, B>,
     pub(crate) reach: L,

@@ -19,7 +19,7 @@ pub struct Report<B> {
 }
 
 // What a re-reading answers: how many entries the list has now, and the report.
-#[derive(Clone, Copy, PartialEq, Eq, Debug)]
+#[derive(Drop)]
 pub struct Reread<B> {
     pub count: B,
     pub report: Report<B>,

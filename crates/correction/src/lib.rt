@@ -18,7 +18,3 @@ pub use edits::ReportDebug;
 pub use edits::ReportEq;
 pub use edits::ReportPartialEq;
 pub use edits::Reread;
-pub use edits::RereadClone;
-pub use edits::RereadDebug;
-pub use edits::RereadEq;
-pub use edits::RereadPartialEq;

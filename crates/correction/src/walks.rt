@@ -22,7 +22,7 @@ use scanner::scan;
 
 // Where the readings meet: how many new entries come before, which old entry is the first that is kept, and a place in the new text
 // that no entry before the meeting reads, old or new.
-#[derive(Clone, Copy)]
+#[derive(Drop)]
 pub(crate) struct Meeting<L, B> {
     pub(crate) added: B,
     pub(crate) old: B,

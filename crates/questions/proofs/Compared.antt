@@ -26,7 +26,6 @@ module _ {L B : Type 0} (a b : List (Record L B)) where
   pub other-lengths : (length a ≡ length b → ⊥) → false ≡ same (kinds-of a) (kinds-of b)
   other-lengths h = same-lengths (kinds-of a) (kinds-of b) (λ e. h (omega (arith, length-map a (λ x. x .kind), length-map b (λ x. x .kind))))
 
-
   module _ (i : ℕ) (x y : Record L B) (ha : i < length a) (hb : i < length b) where
     here : same (kinds-of (drop i a)) (kinds-of (drop i b)) ≡ (eqb (getD a i x .kind) (getD b i y .kind) && same (kinds-of (drop (i + 1) a)) (kinds-of (drop (i + 1) b)))
     here = ap₂ same (ap kinds-of (drop-more a i x ha)) (ap kinds-of (drop-more b i y hb))

@@ -15,8 +15,8 @@ Lies-within s es n = start es n + at es n .length ≤ length s
 -- a copy as it is defined for the text's own list, but that bytes which the text lacks leave the buffer there as it was
 unfoldable pub copy-from : List ℕ → List Entry → ℕ → List ℕ → Answered
 copy-from s es n buffer =
-  cond (ltb n (length es))
+    cond (ltb n (length es))
     (cond (leb (at es n .length) (length buffer))
-      (copied (at es n .length) (bytes-of s es n ++ drop (length (bytes-of s es n)) buffer))
-      (not-copied (short-buffer (at es n .length)) buffer))
+    (copied (at es n .length) (bytes-of s es n ++ drop (length (bytes-of s es n)) buffer))
+    (not-copied (short-buffer (at es n .length)) buffer))
     (not-copied (no-token n) buffer)

@@ -22,7 +22,7 @@ returns-then-buffer-length g c =
     let es = listed (c .args .tokens .now) in
     let long = length-map (c .args .tokens .now) (numbers (λ n. n .0) (λ n. n .0)) in
     let k = length-at (c .args .tokens .now) (c .args .number .0) (c .if-number-tokens .left) in
-    let a = copy-short s es (c .args .number .0) (c .args .buffer .now) _ (omega arith) (sym k) (c .if-buffer-length .taken) in
+    let a = copy-short s es (c .args .number .0) (c .args .buffer .now) _ (omega arith) (sym k) (omega arith) in
     record { answer = a; copied = λ w. a ∙ own s es (c .args .number .0) (c .args .buffer .now) w }
 
 pub returns : need.returns
@@ -33,5 +33,5 @@ returns g c =
     let long = length-map (c .args .tokens .now) (numbers (λ n. n .0) (λ n. n .0)) in
     let k = length-at (c .args .tokens .now) (c .args .number .0) (c .if-number-tokens .left) in
     let long-as = getD (c .args .tokens .now) (c .args .number .0) blank .length .0 in
-    let a = copy-done s es (c .args .number .0) b _ _ _ (c .start-of-start .result) (c .read-into .last .part) (omega arith) (sym k) (c .if-buffer-length .left) (omega arith) (omega (arith, length-take (long-as - 0) b)) (c .read-into .ensures .small) (c .start-of-start .ensures) (c .read-into .ensures .part) in
+    let a = copy-done s es (c .args .number .0) b _ _ _ (c .start-of-start .result) (c .read-into .last .part) (omega arith) (sym k) (omega arith) (omega arith) (omega (arith, length-take (long-as - 0) b)) (c .read-into .ensures .small) (c .start-of-start .ensures) (c .read-into .ensures .part) in
     record { answer = a; copied = λ w. a ∙ own s es (c .args .number .0) b w }

@@ -3,7 +3,7 @@ use Rattle.questions.proofs.Compared.{other-lengths, same-more, same-not, same
 use Rattle.questions.proofs.kinds.same_kinds.Needs as need
 
 pub returns-then-a-b : need.returns-then-a-b
-returns-then-a-b c = other-lengths (c .args .a .now) (c .args .b .now) (c .if-a-b .taken)
+returns-then-a-b c = other-lengths (c .args .a .now) (c .args .b .now) (λ e. omega arith)
 
 pub returns-then-token-b : need.returns-then-token-b
 returns-then-token-b c = same-not (c .args .a .now) (c .args .b .now) (c .loop-i .i) _ _ (omega arith) (omega arith) _ (c .loop-i .inv) (c .if-token-b .taken)
