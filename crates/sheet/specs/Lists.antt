@@ -8,6 +8,7 @@ use Rattle.books.specs.Meaning.{tables}
 use Rattle.reading.specs.Reading.{Entry}
 use Rattle.scanner.specs.Numbers.{numbered}
 use Rattle.requests.specs.Sheets.{token-list, line-list}
+use Rattle.sheet.specs.declared.parts.Parts.{Parts}
 use Rattle.sheet.specs.declared.sheets.Sheet.{Sheet}
 
 abbrev pub tokens-of : {S : Type 0} → Sheet S → List Entry
@@ -31,3 +32,10 @@ pub record Keeps {S : Type 0} (h k : Sheet S) : Type 0 where
   pub line-book : k .«line_book» ≡ h .«line_book»
   pub token-memory : vec-len (k .tokens) ≡ vec-len (h .tokens)
   pub line-memory : vec-len (k .lines) ≡ vec-len (h .lines)
+
+-- a sheet has the books that it was made of, and memories of the same sizes
+pub record Made-of {S : Type 0} (p : Parts S) (h : Sheet S) : Type 0 where
+  pub token-book : h .«token_book» ≡ p .«token_book»
+  pub line-book : h .«line_book» ≡ p .«line_book»
+  pub token-memory : vec-len (h .tokens) ≡ vec-len (p .tokens)
+  pub line-memory : vec-len (h .lines) ≡ vec-len (p .lines)

@@ -9,7 +9,7 @@ ghost use Rattle.std.specs.declared.option.Option.the-variants.{None};
 ghost use Rattle.books.specs.Meaning.{tables};
 ghost use Rattle.requests.specs.Plain.{asked, answered};
 ghost use Rattle.requests.specs.Sheets.{History};
-ghost use Rattle.sheet.specs.Lists.{tokens-of, lines-of, Right, Keeps};
+ghost use Rattle.sheet.specs.Lists.{tokens-of, lines-of, Right, Keeps, Made-of};
 ghost use Rattle.sheet.specs.Opening.{unopened};
 ghost use Rattle.sheet.specs.Due.{Due};
 use crate::outcomes::Performed;
@@ -54,7 +54,7 @@ pub fn perform<S: TextStore>(
 ) -> Result<Performed<S>, Unperformed<S>>
     ensures answer { λ r. ⌜ Cases r (λ _. unopened (S·TextStore .room (parts .store)) (vec-len (parts .tokens)) (vec-len (parts .lines)) ≡ None) (λ u. (u .parts ≡ parts) × (u .requests ≡ requests) × Due (unopened (S·TextStore .room (parts .store)) (vec-len (parts .tokens)) (vec-len (parts .lines))) (u .reason)) ⌝ }
     ensures history { λ r. ⌜ made r (λ p. History (tables (parts .«token_book»)) (tables (parts .«line_book»)) (S·TextStore .room (parts .store)) (S·TextStore .text (parts .store)) (map asked (vec-items requests)) (map answered (vec-items (p .answers))) (S·TextStore .text (p .sheet .store)) (tokens-of (p .sheet)) (lines-of (p .sheet))) ⌝ }
-    ensures kept { λ r. ⌜ made r (λ p. (S·TextStore .room (p .sheet .store) ≡ S·TextStore .room (parts .store)) × (p .sheet .«token_book» ≡ parts .«token_book») × (p .sheet .«line_book» ≡ parts .«line_book») × (vec-len (p .sheet .tokens) ≡ vec-len (parts .tokens)) × (vec-len (p .sheet .lines) ≡ vec-len (parts .lines))) ⌝ }
+    ensures kept { λ r. ⌜ made r (λ p. (S·TextStore .room (p .sheet .store) ≡ S·TextStore .room (parts .store)) × Made-of parts (p .sheet)) ⌝ }
 {
     let answers = match Vec::with_capacity(heap, requests.len()) {
         Ok(answers) => answers,

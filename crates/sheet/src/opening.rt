@@ -5,10 +5,11 @@ ghost use lib.ListN.{length, take};
 ghost use Rattle.std.specs.Of.Vec.{vec-len};
 ghost use Rattle.std.specs.Options.{mapped};
 ghost use Rattle.std.specs.Results.{Cases, errPart};
+ghost use Rattle.std.specs.Vec.{made};
 ghost use Rattle.books.specs.Meaning.{tables};
 ghost use Rattle.reading.specs.Reading.{batch, kinds};
 ghost use Rattle.scanner.specs.Numbers.{numbered};
-ghost use Rattle.sheet.specs.Lists.{Right};
+ghost use Rattle.sheet.specs.Lists.{Right, Made-of};
 ghost use Rattle.sheet.specs.Opening.{unopened};
 use crate::parts::Parts;
 use crate::parts::Unopened;
@@ -77,7 +78,8 @@ impl<S: TextStore> Sheet<S> {
     // Makes a sheet of the text that the store holds.
     pub fn open(parts: Parts<S>) -> Result<Sheet<S>, Unopened<S>>
         ensures answer { λ r. ⌜ mapped (λ u. u .fault) (errPart r) ≡ unopened (S·TextStore .room (parts .store)) (vec-len (parts .tokens)) (vec-len (parts .lines)) ⌝ }
-        ensures made { λ r. ⌜ Cases r (λ h. (h .store ≡ parts .store) × (h .«token_book» ≡ parts .«token_book») × (h .«line_book» ≡ parts .«line_book») × (vec-len (h .tokens) ≡ vec-len (parts .tokens)) × (vec-len (h .lines) ≡ vec-len (parts .lines)) × Right h (S·TextStore .text (parts .store)) (S·TextStore .room (parts .store))) (λ u. u .parts ≡ parts) ⌝ }
+        ensures parts { λ r. ⌜ Cases r (λ h. (h .store ≡ parts .store) × Made-of parts h) (λ u. u .parts ≡ parts) ⌝ }
+        ensures right { λ r. ⌜ made r (λ h. Right h (S·TextStore .text (parts .store)) (S·TextStore .room (parts .store))) ⌝ }
     {
         if let Some(fault) = check(
             parts.store.capacity(),

@@ -42,23 +42,25 @@ returns g c =
     let seen : c .deref .result .now ≡ tokens = c .deref .ensures .value ∙ token-items in
     record {
       answer = c .in-rest .ensures tt ∙ ap (λ x. unopened x (c .len .result) (c .len-2 .result)) (c .capacity .ensures) ∙ ap (λ x. unopened room x (c .len-2 .result)) (c .len .ensures) ∙ ap (λ x. unopened room (vec-len (parts .tokens)) x) (c .len-2 .ensures);
-      made = (
+      parts = (
         refl {a = parts .store},
-        refl {a = parts .«token_book»},
-        refl {a = parts .«line_book»},
-        refl,
-        refl,
         record {
-          tokens = ap (λ xs. numbered (λ k. k .0) (λ k. k .0) (take n xs)) token-items ∙ c .read-text-token-count .ensures .list;
-          lines =
-              ap (λ xs. numbered (λ k. k .0) (λ k. k .0) (take (c .read-kinds-line-count .result .0) xs)) line-items
-              ∙ c .read-kinds-line-count .ensures .list
-              ∙ ap (λ m. batch l (kinds (numbered (λ k. k .0) (λ k. k .0) (take m (c .deref .result .now))))) (omega arith)
-              ∙ ap (λ xs. batch l (kinds (numbered (λ k. k .0) (λ k. k .0) (take n xs)))) seen
-              ∙ ap (λ es. batch l (kinds es)) (c .read-text-token-count .ensures .list);
-          limit = omega (arith, f .limit, c .capacity .ensures);
-          token-room = omega (arith, f .token-room, c .capacity .ensures, c .len .ensures);
-          line-room = omega (arith, f .line-room, c .capacity .ensures, c .len-2 .ensures);
+          token-book = refl {a = parts .«token_book»};
+          line-book = refl {a = parts .«line_book»};
+          token-memory = refl;
+          line-memory = refl;
         },
       );
+      right = record {
+        tokens = ap (λ xs. numbered (λ k. k .0) (λ k. k .0) (take n xs)) token-items ∙ c .read-text-token-count .ensures .list;
+        lines =
+            ap (λ xs. numbered (λ k. k .0) (λ k. k .0) (take (c .read-kinds-line-count .result .0) xs)) line-items
+            ∙ c .read-kinds-line-count .ensures .list
+            ∙ ap (λ m. batch l (kinds (numbered (λ k. k .0) (λ k. k .0) (take m (c .deref .result .now))))) (omega arith)
+            ∙ ap (λ xs. batch l (kinds (numbered (λ k. k .0) (λ k. k .0) (take n xs)))) seen
+            ∙ ap (λ es. batch l (kinds es)) (c .read-text-token-count .ensures .list);
+        limit = omega (arith, f .limit, c .capacity .ensures);
+        token-room = omega (arith, f .token-room, c .capacity .ensures, c .len .ensures);
+        line-room = omega (arith, f .line-room, c .capacity .ensures, c .len-2 .ensures);
+      };
     }
