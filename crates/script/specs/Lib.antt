@@ -1,0 +1,5 @@
+pub mod Hex
+pub mod Texts
+pub mod Shown
+pub mod Lines
+pub mod Wrongs
