@@ -3,12 +3,15 @@
 
 usage: tools/replay.py < SCRIPT           print what the replay program prints for the script
        tools/replay.py --selftest         compare with the worked corrections of docs/REPLAY.md
+       tools/replay.py --random SEED COUNT PROGRAM    compare with what PROGRAM prints for so many random scripts, broken ones among them
 
 The house's tokens come from tools/brute.py, which has no table and no automaton; a book of the script is read by walking its tables from every start.
 Nothing is kept from one text to the next, so nothing can be kept wrongly.
 """
 import os
+import random
 import re
+import subprocess
 import sys
 
 sys.path.insert(0, os.path.dirname(os.path.abspath(__file__)))
@@ -337,9 +340,84 @@ def play(script):
     return out + ['text ' + escape(sheet), 'tokens', *table(now[0]), 'lines', *table(now[1])]
 
 
+# ---- random scripts ----
+
+ALPHABET = b'<<>>**  \n\n{}[01:02.50]ab\t\r\xe9\x00"\\'
+
+
+def random_text(pick, most):
+    if pick.random() < 0.2:
+        return pick.choice([b'[12:34.56]', b'<la>', b'<la> *', b'{note}', b' *', b'>'])
+    return bytes(pick.choice(ALPHABET) for _ in range(pick.randrange(most + 1)))
+
+
+def random_book(pick):
+    """A book that is sound for the most part."""
+    states, classes, modes, rules = pick.choice([(1, 1, 1, 1), (3, 2, 2, 2), (128, 3, 2, 5), (4, 3, 3, 3), (5, 4, 1, 2)])
+    class_table = bytes(pick.randrange(classes) for _ in range(256))
+    steps = bytes(pick.choice([255, pick.randrange(states), pick.randrange(states)]) for _ in range(states * classes))
+    accepts = bytes(pick.choice([255, pick.randrange(rules)]) for _ in range(states))
+    rule_table = bytes(n for _ in range(rules) for n in (pick.randrange(2, 9), pick.randrange(modes)))
+    starts = bytes(pick.randrange(states) for _ in range(modes))
+    tables = [bytearray(table) for table in (class_table, steps, accepts, rule_table, starts)]
+    if pick.random() < 0.15:
+        table = pick.choice(tables)
+        if pick.random() < 0.5:
+            table.append(7)
+        else:
+            table[pick.randrange(len(table))] = pick.choice([0, 1, 200])
+    return ' '.join([str(n) for n in (states, classes, modes, rules)] + [bytes(table).hex() or '-' for table in tables])
+
+
+def random_request(pick, most):
+    near = lambda: pick.choice([0, 1, 2, pick.randrange(most + 2), pick.randrange(most + 2)])
+    name = pick.choice(['correct'] * 8 + ['token', 'line', 'where', 'time', 'copy', 'alike'])
+    if name == 'correct':
+        return f'correct {near()} {pick.choice([0, 0, 1, 2, near()])} {escape(random_text(pick, 6))}'
+    if name in ('copy', 'alike'):
+        return f'{name} {near()} {near()}'
+    return f'{name} {near()}'
+
+
+def random_script(pick):
+    room = pick.choice([0, 1, 8, 20, 60])
+    setup = [f'store {pick.choice(["flat", "gap"])} {room}', f'text {escape(random_text(pick, room))}']
+    if pick.random() < 0.1:
+        setup.append(f'memory {room + pick.randrange(3)} {room + pick.randrange(3)}')
+    for name in ('token-book', 'line-book'):
+        if pick.random() < 0.3:
+            setup.append(f'{name} {random_book(pick)}')
+    pick.shuffle(setup)
+    lines = setup + [random_request(pick, room) for _ in range(pick.randrange(40))]
+    script = bytearray(('\n'.join(lines) + '\n').encode('latin-1'))
+    if pick.random() < 0.1:
+        place = pick.randrange(len(script))
+        script[place:place + pick.randrange(3)] = pick.choice([b' ', b'"', b'\\', b'9', b'\n', b'\xff'])
+    return bytes(script)
+
+
+def compare(seed, count, program):
+    differ = 0
+    for number_ in range(count):
+        script = random_script(random.Random(f'{seed} {number_}'))
+        done = subprocess.run([program], input=script, capture_output=True, check=False)
+        want = '\n'.join(play(script)) + '\n'
+        got = done.stdout.decode('latin-1')
+        if re.match('line [0-9]+: ', want):
+            # the words are the program's own
+            got = re.sub(': .*', ': ', got)
+        if got != want or done.returncode:
+            differ += 1
+            print('differs:', seed, number_)
+    print(f'{count} scripts, {differ} differ')
+    return bool(differ)
+
+
 def main(words):
     if words == ['--selftest']:
         return selftest()
+    if len(words) == 4 and words[0] == '--random':
+        return compare(words[1], int(words[2]), words[3])
     if words:
         print(__doc__, file=sys.stderr)
         return 2

@@ -24,10 +24,10 @@ use text::TextStore;
 
 // The line of the text, and the tables of the tokens and of the lines.
 #[derive(Drop)]
-pub struct Ending {
-    pub text: String,
-    pub tokens: String,
-    pub lines: String,
+pub(crate) struct Ending {
+    pub(crate) text: String,
+    pub(crate) tokens: String,
+    pub(crate) lines: String,
 }
 
 // The bytes of a store.
@@ -44,7 +44,7 @@ fn bytes_of<S: TextStore>(heap: Global, store: &S) -> Result<Vec<u8>, AllocError
     Ok(bytes)
 }
 
-pub fn closing<S: TextStore + Drop>(heap: Global, sheet: Sheet<S>) -> Result<Ending, AllocError>
+pub(crate) fn closing<S: TextStore + Drop>(heap: Global, sheet: Sheet<S>) -> Result<Ending, AllocError>
     requires token_total { ⌜ total-length (tokens-of sheet) < 2 ^ 64 ⌝ }
     requires line_total { ⌜ total-length (lines-of sheet) < 2 ^ 64 ⌝ }
     ensures text { λ r. ⌜ made r (λ e. string-bytes (e .text) ≡ line-with (codes "text") [] (S·TextStore .text (sheet .store))) ⌝ }

@@ -104,7 +104,7 @@ fn play_on<S: TextStore + Drop>(
 }
 
 // Plays a script and prints what it comes to.
-pub fn play(rt: &LibcRuntime, script: Script) -> io::Result<()> {
+pub(crate) fn play(rt: &LibcRuntime, script: Script) -> io::Result<()> {
     let heap = rt.alloc();
     let token_book = match book_of(&script.token_book, token_book()) {
         Ok(book) => book,
