@@ -5,14 +5,14 @@ use Rattle.books.proofs.Facts.{book_sound, code_place, steps_low, step_within}
 use Rattle.books.proofs.Fronts.{front_within}
 use Rattle.books.proofs.book.Book.step.Goals as goal
 
-pub overflow-mul-result : goal.overflow-mul-result
-overflow-mul-result c =
+pub overflow_mul-result : goal.overflow_mul-result
+overflow_mul-result c =
     let code : c.args.code < 256 = omega arith in
     let place = code_place (tables c.args.self.now) (book_sound c.args.self.now) c.args.state c.args.code c.requires code in
     let low = steps_low (tables c.args.self.now) (book_sound c.args.self.now) in search rules
 
-pub overflow-add-result : goal.overflow-add-result
-overflow-add-result c =
+pub overflow_add-result : goal.overflow_add-result
+overflow_add-result c =
     let code : c.args.code < 256 = omega arith in
     let place = code_place (tables c.args.self.now) (book_sound c.args.self.now) c.args.state c.args.code c.requires code in
     let low = steps_low (tables c.args.self.now) (book_sound c.args.self.now) in search rules

@@ -8,14 +8,14 @@ use Rattle.books.proofs.Questions.{none_more, no_decides}
 use Rattle.books.specs.Plans.{plan}
 use Rattle.books.proofs.draft.Draft.accepts_right.Goals as goal
 
-pub returns-then-not-below-or-none : goal.returns-then-not-below-or-none
-returns-then-not-below-or-none c =
+pub returns-then-not-below_or_none : goal.returns-then-not-below_or_none
+returns-then-not-below_or_none c =
     ap (option_map Accept) (no_decides (accept_right (plan c.args.self.now)) c.loop-state.state (length (plan c.args.self.now).tables.accepts)
     c.loop-state.invariant
-    (ap (below_or_none c.args.self.now.rules) (get_or_default _ _ 255 0 c.loop-state-test.true) ∙ sym c.if-not-below-or-none.ensures)
+    (ap (below_or_none c.args.self.now.rules) (get_or_default _ _ 255 0 c.loop-state-test.true) ∙ sym c.if-not-below_or_none.ensures)
     (omega arith))
 
 pub loop-state-preserved : goal.loop-state-preserved
 loop-state-preserved c =
     none_more (accept_right (plan c.args.self.now)) c.loop-state.state c.loop-state.invariant
-    (ap (below_or_none c.args.self.now.rules) (get_or_default _ _ 255 0 c.loop-state-test.true) ∙ sym c.if-not-below-or-none.ensures)
+    (ap (below_or_none c.args.self.now.rules) (get_or_default _ _ 255 0 c.loop-state-test.true) ∙ sym c.if-not-below_or_none.ensures)

@@ -10,5 +10,5 @@ loop-state-preserved c =
       length-set _ _ _ ∙ c.loop-state.invariant.0,
       below_more _ _
           (λ k h. let other : k ≢ c.loop-state.state = omega arith in rw get_or-set_other (c.loop-state.invariant.1 k h))
-          (rw get_or-set_same c.is-closed.ensures),
+          (rw get_or-set_same c.is_closed.ensures),
     )
