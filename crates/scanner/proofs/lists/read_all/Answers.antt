@@ -19,10 +19,10 @@ returns-then-memory-get g c =
       looks_back = looks_back t sound codes;
     }
 
-pub set-lookbacks-requires : goal.set-lookbacks-requires
-set-lookbacks-requires g c =
+pub set_lookbacks-requires : goal.set_lookbacks-requires
+set_lookbacks-requires g c =
     let codes = g.S.Symbols.codes c.args.symbols.now in
-    let w = c.write-entries-entries in
+    let w = c.write_entries-entries in
     let first = stands_first _ (g.B.Count.number c.of.result) (g.S.Place.Count.number c.of-2.result) c.of.ensures c.of-2.ensures in
     record {
       fit = whole_fit g.S.Place.Count.number g.B.Count.number (tables c.args.book.now) codes c.args.memory.now w.new.memory w.result w.ensures (omega arith);
@@ -40,9 +40,9 @@ returns g c =
     let sound = book_sound c.args.book.now in
     let l = g.S.Place.Count.number in
     let b = g.B.Count.number in
-    let w = c.write-entries-entries in
-    let part = c.set-lookbacks.new.entries in
-    let is = whole_part l b t codes c.args.memory.now w.new.memory w.result w.ensures (b c.of.result) part c.of.ensures c.set-lookbacks.ensures in
+    let w = c.write_entries-entries in
+    let part = c.set_lookbacks.new.entries in
+    let is = whole_part l b t codes c.args.memory.now w.new.memory w.result w.ensures (b c.of.result) part c.of.ensures c.set_lookbacks.ensures in
     let n = b c.of-3.result in
     record {
       answer = answer_some (length c.args.memory.now) (length codes) (length (batch t codes)) n (omega arith) (whole_size l b t codes c.args.memory.now w.new.memory w.result w.ensures part is n c.of-3.ensures);

@@ -6,14 +6,14 @@ use Rattle.scanner.proofs.Starts.{numbered_at, start_more, start_is}
 use Rattle.scanner.proofs.lookbacks.advance.Goals as goal
 use Rattle.scanner.proofs.lookbacks.advance.Goals.{then-loop-number-test+else-start-get, else-loop-number-test}
 
-pub overflow-add-start : goal.overflow-add-start
-overflow-add-start g c =
+pub overflow_add-start : goal.overflow_add-start
+overflow_add-start g c =
     let p = c.loop-number.number in
     let e = numbered_at g.L.Count.number g.B.Count.number c.args.entries.now p c.index-entries-number.result (omega arith) in
     omega (arith, ap (λ x. x.reading) e, c.requires.fit p)
 
-pub overflow-add-start-in-loop-number : goal.overflow-add-start-in-loop-number
-overflow-add-start-in-loop-number g c =
+pub overflow_add-start-in-loop-number : goal.overflow_add-start-in-loop-number
+overflow_add-start-in-loop-number g c =
     let p = c.loop-number.number in
     let es = numbered g.L.Count.number g.B.Count.number c.args.entries.now in
     let e = numbered_at g.L.Count.number g.B.Count.number c.args.entries.now p c.index-entries-number-in-loop-number.result (omega arith) in

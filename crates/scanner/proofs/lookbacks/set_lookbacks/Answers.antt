@@ -24,8 +24,8 @@ advance-reader-requires g c =
       passed = subst (Passed now _) (sym c.of.ensures) ready.passed;
     }
 
-pub overflow-add-start : goal.overflow-add-start
-overflow-add-start g c =
+pub overflow_add-start : goal.overflow_add-start
+overflow_add-start g c =
     let j = c.loop-number.number in
     let now = numbered g.L.Count.number g.B.Count.number c.loop-number.entries in
     let ready : Ready now _ _ _ _ = going_ready _ now _ _ _ _ _ c.loop-number.invariant c.requires.fit in

@@ -12,9 +12,9 @@ returns-then-get g c =
     let xs = drop (g.S.Place.Count.number c.args.place) codes in
     let some : 0 < length xs = omega (arith, length-drop (g.S.Place.Count.number c.args.place) codes) in
     record {
-      value = is_scanned t m xs _ some c.token-at.ensures;
-      longest = λ h. longest_of t m xs _ some c.token-at.ensures;
-      depends = λ h. depends_of t m xs _ c.token-at.ensures;
+      value = is_scanned t m xs _ some c.token_at.ensures;
+      longest = λ h. longest_of t m xs _ some c.token_at.ensures;
+      depends = λ h. depends_of t m xs _ c.token_at.ensures;
     }
 
 pub returns-else-get : goal.returns-else-get
@@ -23,7 +23,7 @@ returns-else-get g c =
     let codes = g.S.Symbols.codes c.args.symbols.now in
     let place = g.S.Place.Count.number c.args.place in
     record {
-      value = is_scanned_end t c.args.mode (drop place codes) _ (omega (arith, length-drop place codes)) c.end-token.ensures;
+      value = is_scanned_end t c.args.mode (drop place codes) _ (omega (arith, length-drop place codes)) c.end_token.ensures;
       longest = λ h. absurd (omega arith);
       depends = λ h. absurd (omega arith);
     }

@@ -8,7 +8,7 @@ use Rattle.scanner.proofs.scans.stay.Goals as goal
 
 -- the code that was read stands at its place, and within the text
 read : (g : given.Over) (c : goal.Else-step-state g) → Some c.in-Some.code ≡ slice_get (g.S.Symbols.codes c.args.symbols.now) (c.args.place + c.loop-code.count)
-read g c = answered _ _ _ _ _ c.in-Some.is c.code-at.ensures c.of.ensures
+read g c = answered _ _ _ _ _ c.in-Some.is c.code_at.ensures c.of.ensures
 
 inside : (g : given.Over) (c : goal.Else-step-state g) → c.args.place + c.loop-code.count < length (g.S.Symbols.codes c.args.symbols.now)
 inside g c = place_within (g.S.Symbols.codes c.args.symbols.now) (c.args.place + c.loop-code.count) c.in-Some.code (sym (read g c))
