@@ -6,5 +6,5 @@ use Rattle.table.proofs.push_blanks.Goals as goal
 pub loop-preserved : goal.loop-preserved
 unfolding lib.Utf8.encode
 loop-preserved c =
-    behind (string_bytes c.args.out.now) (replicate c.loop.counter 32) (32 ∷ []) c.loop.invariant c.in-ok-push.ensures.bytes
+    behind (string_bytes c.args.out.now) (replicate c.loop.counter 32) (32 ∷ []) c.loop.invariant c.in_ok-push.ensures.bytes
     ∙ ap (λ xs. string_bytes c.args.out.now ++ xs) (replicate_more c.loop.counter 32)

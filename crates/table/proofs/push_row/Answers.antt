@@ -9,7 +9,7 @@ pub loop-n-preserved : goal.loop-n-preserved
 loop-n-preserved c =
     let ns = c.args.numbers.now in
     let i = c.loop-n.n-index in
-    c.in-ok-push-field.ensures
+    c.in_ok-push_field.ensures
     ∙ ap (λ xs. xs ++ field (get_or ns i 0)) c.loop-n.invariant
     ∙ flat_map_more field (string_bytes c.args.out.now) (take i ns) (get_or ns i 0)
     ∙ ap (λ xs. string_bytes c.args.out.now ++ flat_map field xs) (sym (take_more ns i 0 c.loop-n-test.true))
@@ -19,5 +19,5 @@ unfolding lib.Utf8.encode
 returns c =
     let ns = c.args.numbers.now in
     let i = c.loop-n.n-index in
-    behind (string_bytes c.args.out.now) (flat_map field (take i ns)) (10 ∷ []) c.loop-n.invariant c.in-ok-push.ensures.bytes
+    behind (string_bytes c.args.out.now) (flat_map field (take i ns)) (10 ∷ []) c.loop-n.invariant c.in_ok-push.ensures.bytes
     ∙ ap (λ xs. string_bytes c.args.out.now ++ (flat_map field xs ++ (10 ∷ []))) (take_all i ns c.loop-n-test.false)

@@ -22,8 +22,8 @@ next g c =
     let j = c.loop-number.number in
     ap₂ ◌+◌ c.loop-number.invariant.0 (c.get-start.ensures ∙ ap (λ e. e.length) (sym (here g c))) ∙ sym (start_more es j)
 
-pub overflow-add-start : goal.overflow-add-start
-overflow-add-start g c =
+pub overflow_add-start : goal.overflow_add-start
+overflow_add-start g c =
     let es = numbered g.L.Count.number g.B.Count.number c.args.entries.now in
     let j = c.loop-number.number in
     let within : j + 1 ≤ length c.args.entries.now = omega (arith, c.loop-number-test.true) in
@@ -35,7 +35,7 @@ pub loop-number-init : goal.loop-number-init
 unfolding header
 loop-number-init g c =
     let es = numbered g.L.Count.number g.B.Count.number c.args.entries.now in
-    (sym (start_none es), c.in-ok-out.ensures.ok ∙ rows_none es)
+    (sym (start_none es), c.in_ok-out.ensures.ok ∙ rows_none es)
 
 pub loop-number-preserved : goal.loop-number-preserved
 loop-number-preserved g c =
@@ -43,7 +43,7 @@ loop-number-preserved g c =
     let j = c.loop-number.number in
     let shown : c.columns.result ≡ columns j (start es j) (at es j) =
     c.columns.ensures ∙ ap₂ (columns j) c.loop-number.invariant.0 (sym (here g c)) in
-    (next g c, c.in-ok-push-row.ensures ∙ ap₂ ◌++◌ c.loop-number.invariant.1 (ap row shown) ∙ rows_more es j)
+    (next g c, c.in_ok-push_row.ensures ∙ ap₂ ◌++◌ c.loop-number.invariant.1 (ap row shown) ∙ rows_more es j)
 
 pub returns : goal.returns
 unfolding table

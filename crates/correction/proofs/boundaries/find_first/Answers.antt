@@ -10,7 +10,7 @@ use Rattle.scanner.specs.Numbers.{numbers, numbered}
 use Rattle.scanner.proofs.Starts.{numbered_at, start_is}
 use Rattle.correction.proofs.Sums.{read_at, sum_start, sum_reach, first_found}
 use Rattle.correction.proofs.boundaries.find_first.Goals as goal
-use Rattle.correction.proofs.boundaries.find_first.Goals.{then-loop-number-test+else-saturating-add-place, else-loop-number-test}
+use Rattle.correction.proofs.boundaries.find_first.Goals.{then-loop-number-test+else-saturating_add-place, else-loop-number-test}
 
 pub loop-number-init : goal.loop-number-init
 loop-number-init g c =
@@ -27,8 +27,8 @@ loop-number-preserved g c =
       sym (mode_before_more es p ∙ ap (λ x. x.mode) e),
       λ fit.
           let so_far = c.loop-number.invariant.2 fit in
-          let far = sum_reach es fit p c.loop-number.start so_far.0 c.get.result c.saturating-add.result (ap (λ x. x.reading) f ∙ sym c.get.ensures) c.saturating-add.ensures in (
-            sum_start es fit p c.loop-number.start so_far.0 c.get-in-loop-number.result _ (ap (λ x. x.length) e ∙ sym c.get-in-loop-number.ensures) c.saturating-add-start.ensures,
+          let far = sum_reach es fit p c.loop-number.start so_far.0 c.get.result c.saturating_add.result (ap (λ x. x.reading) f ∙ sym c.get.ensures) c.saturating_add.ensures in (
+            sum_start es fit p c.loop-number.start so_far.0 c.get-in-loop-number.result _ (ap (λ x. x.length) e ∙ sym c.get-in-loop-number.ensures) c.saturating_add-start.ensures,
             short_more es p _ so_far.1 (omega (arith, far)),
           ),
     )
@@ -42,9 +42,9 @@ returns g c =
       first = λ fit.
           let all = c.loop-number.invariant.2 fit in
           let reads : p < length es → c.get-place.result < reach es p = λ h. elim c.loop-number-test.branch [
-            | then-loop-number-test+else-saturating-add-place w ↦
+            | then-loop-number-test+else-saturating_add-place w ↦
                 let f = numbered_at g.L.Count.number g.B.Count.number c.args.entries.now p w.index-entries-number.result (omega (arith, w.loop-number-test.true)) in
-                omega (arith, sum_reach es fit p c.loop-number.start all.0 w.get.result w.saturating-add.result (ap (λ x. x.reading) f ∙ sym w.get.ensures) w.saturating-add.ensures, w.if-saturating-add-place.false)
+                omega (arith, sum_reach es fit p c.loop-number.start all.0 w.get.result w.saturating_add.result (ap (λ x. x.reading) f ∙ sym w.get.ensures) w.saturating_add.ensures, w.if-saturating_add-place.false)
             | else-loop-number-test w ↦ absurd (omega (arith, w.loop-number-test.false, length-map c.args.entries.now (numbers g.L.Count.number g.B.Count.number)))
           ] in
           let found = first_found es p c.get-place.result all.1 (omega (arith, length-map c.args.entries.now (numbers g.L.Count.number g.B.Count.number))) reads in (

@@ -22,8 +22,8 @@ loop-number-preserved g c =
       λ h. omega arith,
       λ fit s m.
           let so_far = c.loop-number.invariant.2 fit s m in
-          let far = sum_reach es fit p c.loop-number.start so_far.0 c.get.result c.saturating-add.result (ap (λ x. x.reading) e ∙ sym c.get.ensures) c.saturating-add.ensures in (
-            sum_start es fit p c.loop-number.start so_far.0 c.get-in-loop-number.result _ (ap (λ x. x.length) e ∙ sym c.get-in-loop-number.ensures) c.saturating-add-start.ensures,
+          let far = sum_reach es fit p c.loop-number.start so_far.0 c.get.result c.saturating_add.result (ap (λ x. x.reading) e ∙ sym c.get.ensures) c.saturating_add.ensures in (
+            sum_start es fit p c.loop-number.start so_far.0 c.get-in-loop-number.result _ (ap (λ x. x.length) e ∙ sym c.get-in-loop-number.ensures) c.saturating_add-start.ensures,
             sym (mode_before_more es p ∙ ap (λ x. x.mode) e),
             passing_more es _ _ _ p c.loop-number.reach c.max-reach.result so_far.2 (omega (arith, so_far.0)) (omega arith) (omega (arith, far)),
           ),

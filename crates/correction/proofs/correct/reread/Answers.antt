@@ -12,7 +12,7 @@ pub returns : goal.returns
 returns g c =
     record {
       rereads = λ xs met.
-          let n = g.Place.Count.number in
+          let n = g.S.Place.Count.number in
           let b = g.B.Count.number in
           let t = tables c.args.book.now in
           let e = edit_of n c.args.edit in
@@ -20,7 +20,7 @@ returns g c =
           let memory = c.args.memory.now in
           let same : take (b c.args.count) memory ≡ take c.min-count.result memory = sym (take_min (b c.args.count) memory) ∙ ap (λ i. take i memory) (sym (c.min-count.ensures ∙ ap (λ i. min i (length memory)) c.get-2.ensures)) in
           let here : Met t e xs ys (numbered n b (take c.min-count.result memory)) (length memory) = subst (λ l. Met t e xs ys (numbered n b l) (length memory)) same met in
-          c.rewrite.ensures.brought e xs here (c.in-ok-plan.ensures.planned xs here);
+          c.rewrite.ensures.brought e xs here (c.in_ok-plan.ensures.planned xs here);
       head = c.rewrite.ensures.head;
       within = c.rewrite.ensures.within;
     }
@@ -28,11 +28,11 @@ returns g c =
 at_none : {A : Type 0} (o : Option A) (P : Type 0) (Q : A → Type 0) → o ≡ None → P → MatchOption o P Q
 at_none o P Q e p = subst (λ (x : Option _). MatchOption x P Q) (sym e) p
 
-pub returns-in-err-plan : goal.returns-in-err-plan
-returns-in-err-plan g c =
+pub returns-in_err-plan : goal.returns-in_err-plan
+returns-in_err-plan g c =
     record {
       rereads = λ xs met.
-          let n = g.Place.Count.number in
+          let n = g.S.Place.Count.number in
           let b = g.B.Count.number in
           let t = tables c.args.book.now in
           let e = edit_of n c.args.edit in
@@ -40,7 +40,7 @@ returns-in-err-plan g c =
           let memory = c.args.memory.now in
           let same : take (b c.args.count) memory ≡ take c.min-count.result memory = sym (take_min (b c.args.count) memory) ∙ ap (λ i. take i memory) (sym (c.min-count.ensures ∙ ap (λ i. min i (length memory)) c.get-2.ensures)) in
           let here : Met t e xs ys (numbered n b (take c.min-count.result memory)) (length memory) = subst (λ l. Met t e xs ys (numbered n b l) (length memory)) same met in
-          absurd (c.in-err-plan.ensures.planned xs here);
-      head = at_none c.from-residual.result _ _ c.from-residual.ensures (refl {a = c.args.memory.now});
-      within = at_none c.from-residual.result _ _ c.from-residual.ensures tt;
+          absurd (c.in_err-plan.ensures.planned xs here);
+      head = at_none c.from_residual.result _ _ c.from_residual.ensures (refl {a = c.args.memory.now});
+      within = at_none c.from_residual.result _ _ c.from_residual.ensures tt;
     }

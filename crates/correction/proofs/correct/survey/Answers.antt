@@ -13,7 +13,7 @@ use Rattle.correction.proofs.correct.survey.Goals.{then-count-index-via-then-cou
 
 pub returns-then-count-index : goal.returns-then-count-index
 returns-then-count-index g c =
-    let n = g.Place.Count.number in
+    let n = g.S.Place.Count.number in
     let b = g.B.Count.number in
     let t = tables c.args.book.now in
     let sound = book_sound c.args.book.now in
@@ -28,9 +28,9 @@ returns-then-count-index g c =
       planned = λ xs met.
           let met-here : Met t e xs codes es (length memory) = subst (λ k. Met t e xs codes (numbered n b (take k memory)) (length memory)) (sym all) met in
           let small : length memory < 2 ^ 64 = omega arith in
-          let found = c.find-first-first.ensures.first (met_fit t sound e xs codes es (length memory) small met-here) in
-          let there = first_there t sound e xs codes es (length memory) met-here (b c.find-first-first.result.number) found.0 in
-          let starts = first_starts t sound e xs codes es (length memory) met-here (b c.find-first-first.result.number) found.0 in
+          let found = c.find_first-first.ensures.first (met_fit t sound e xs codes es (length memory) small met-here) in
+          let there = first_there t sound e xs codes es (length memory) met-here (b c.find_first-first.result.number) found.0 in
+          let starts = first_starts t sound e xs codes es (length memory) met-here (b c.find_first-first.result.number) found.0 in
           elim c.then-count-index.branch [
             | then-count-index-via-then-count-index w ↦ omega (arith, w.if-count-index.true, there, size)
             | then-count-index-via-else-count-index+then-get-place w ↦ omega (arith, w.if-get-place.true, w.get.ensures, w.count.ensures, w.place.ensures, found.1.0, starts)
@@ -39,7 +39,7 @@ returns-then-count-index g c =
 
 pub returns-then-memory-index : goal.returns-then-memory-index
 returns-then-memory-index g c =
-    let n = g.Place.Count.number in
+    let n = g.S.Place.Count.number in
     let b = g.B.Count.number in
     let t = tables c.args.book.now in
     let sound = book_sound c.args.book.now in
@@ -54,15 +54,15 @@ returns-then-memory-index g c =
       planned = λ xs met.
           let met-here : Met t e xs codes es (length memory) = subst (λ k. Met t e xs codes (numbered n b (take k memory)) (length memory)) (sym all) met in
           let small : length memory < 2 ^ 64 = omega arith in
-          let found = c.find-first-first.ensures.first (met_fit t sound e xs codes es (length memory) small met-here) in
+          let found = c.find_first-first.ensures.first (met_fit t sound e xs codes es (length memory) small met-here) in
           let walked = c.walk-meeting.ensures.walked xs (length memory) small met-here found.0 found.1 in
-          let room = room_for t sound e xs codes es (length memory) met-here (b c.find-first-first.result.number) found.0 _ _ _ walked in
-          omega (arith, room, size, c.if-memory-index.true, c.index-2.ensures, c.kept-from.ensures, c.read-again.ensures);
+          let room = room_for t sound e xs codes es (length memory) met-here (b c.find_first-first.result.number) found.0 _ _ _ walked in
+          omega (arith, room, size, c.if-memory-index.true, c.index-2.ensures, c.kept_from.ensures, c.read_again.ensures);
     }
 
 pub returns : goal.returns
 returns g c =
-    let n = g.Place.Count.number in
+    let n = g.S.Place.Count.number in
     let b = g.B.Count.number in
     let t = tables c.args.book.now in
     let sound = book_sound c.args.book.now in
@@ -72,25 +72,25 @@ returns g c =
     let es = numbered n b (take (c.args.count - 0) memory) in
     let all : c.args.count - 0 ≡ c.args.count = omega arith in
     let long = length-take-le (c.args.count - 0) memory (omega arith) in
-    let plan : Plan g.row.S-Place.Denot g.row.B.Denot = record { first = c.find-first-first.result; meeting = c.walk-meeting.result; reader = c.look-back-reader.result } in
+    let plan : Plan g.row.S-Place.Denot g.row.B.Denot = record { first = c.find_first-first.result; meeting = c.walk-meeting.result; reader = c.look_back-reader.result } in
     record {
       within = record {
         first = omega (arith, c.if-count-index.false, c.index.ensures);
         on = c.walk-meeting.ensures.on;
         to = omega (arith, c.walk-meeting.ensures.within, long);
-        behind = omega (arith, c.look-back-reader.ensures.number);
-        fits = omega (arith, c.if-memory-index.false, c.index-2.ensures, c.kept-from.ensures, c.read-again.ensures, c.walk-meeting.ensures.within, c.walk-meeting.ensures.on, long);
+        behind = omega (arith, c.look_back-reader.ensures.number);
+        fits = omega (arith, c.if-memory-index.false, c.index-2.ensures, c.kept_from.ensures, c.read_again.ensures, c.walk-meeting.ensures.within, c.walk-meeting.ensures.on, long);
       };
       planned = λ xs met.
           let met-here : Met t e xs codes es (length memory) = subst (λ k. Met t e xs codes (numbered n b (take k memory)) (length memory)) (sym all) met in
           let small : length memory < 2 ^ 64 = omega arith in
-          let found = c.find-first-first.ensures.first (met_fit t sound e xs codes es (length memory) small met-here) in
+          let found = c.find_first-first.ensures.first (met_fit t sound e xs codes es (length memory) small met-here) in
           let here : Planned n b t e xs codes (take (c.args.count - 0) memory) plan = record {
             first_is = found.0;
             stands = found.1;
             walked = c.walk-meeting.ensures.walked xs (length memory) small met-here found.0 found.1;
-            reader_is = c.look-back-reader.ensures.number;
-            reader_stands = c.look-back-reader.ensures.stands found.1.0;
+            reader_is = c.look_back-reader.ensures.number;
+            reader_stands = c.look_back-reader.ensures.stands found.1.0;
           } in
           subst (λ k. Planned n b t e xs codes (take k memory) plan) all here;
     }

@@ -33,8 +33,8 @@ loop-number-preserved g c =
       λ new r s k a.
           turning_written l b _ new _ _ _ a c.loop-number.entries i c.loop-number.start _ _ c.loop-number.changed (c.loop-number.invariant.3 new r s k a) (omega arith)
           (b c.of.result) (l c.of-in-loop-number.result) (b c.follow-next.result.number) (l c.follow-next.result.start) c.of.ensures c.of-in-loop-number.ensures c.follow-next.ensures.follows
-          c.index-entries-number-in-loop-number.result c.index-entries-number.result c.index-entries-number-in-loop-number-2.result c.saturating-add-start.result c.get-in-loop-number-2.result c.get.result c.get-in-loop-number.result
-          c.saturating-add-start.ensures c.get-in-loop-number-2.ensures c.of-in-loop-number-2.result c.of-in-loop-number-2.ensures c.get.ensures c.get-in-loop-number.ensures c.if-get-lookback.changed way,
+          c.index-entries-number-in-loop-number.result c.index-entries-number.result c.index-entries-number-in-loop-number-2.result c.saturating_add-start.result c.get-in-loop-number-2.result c.get.result c.get-in-loop-number.result
+          c.saturating_add-start.ensures c.get-in-loop-number-2.ensures c.of-in-loop-number-2.result c.of-in-loop-number-2.ensures c.get.ensures c.get-in-loop-number.ensures c.if-get-lookback.changed way,
     )
 
 pub returns : goal.returns
@@ -56,5 +56,5 @@ returns g c =
             | then-loop-number-test+then-beyond w ↦ omega (arith, w.if-beyond.true)
           ] in
           turning_ends put new (b c.args.kept) _ _ begun now c.loop-number.number c.loop-number.start (b c.loop-number.reader.number) (l c.loop-number.reader.start) c.loop-number.changed all (l c.args.limit) (b c.args.first.number) (omega (arith, c.loop-number.auto.number)) (omega (arith, count, size, c.loop-number.auto.number-end (omega arith))) enough
-          (b c.of-2.result) (c.of-2.ensures ∙ c.saturating-sub.ensures ∙ ap (λ n. c.loop-number.changed - n) c.get-2.ensures);
+          (b c.of-2.result) (c.of-2.ensures ∙ c.saturating_sub.ensures ∙ ap (λ n. c.loop-number.changed - n) c.get-2.ensures);
     }

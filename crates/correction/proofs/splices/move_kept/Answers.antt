@@ -6,7 +6,7 @@ use Rattle.correction.proofs.splices.move_kept.Goals as goal
 pub returns-then-from-to : goal.returns-then-from-to
 returns-then-from-to g c =
     let kept : c.args.from + c.args.kept - c.args.from ≡ c.args.kept = omega arith in
-    ap (λ es. take c.args.kept (drop c.args.to es)) c.copy-within.ensures.after ∙
+    ap (λ es. take c.args.kept (drop c.args.to es)) c.copy_within.ensures.after ∙
     ap (λ n. take c.args.kept (drop c.args.to (paste c.args.part.now c.args.to (drop c.args.from c.args.part.now) n))) kept ∙
     moved_paste c.args.part.now c.args.from c.args.to c.args.kept (omega arith) (omega arith)
 

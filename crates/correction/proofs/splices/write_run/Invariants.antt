@@ -8,4 +8,4 @@ abbrev pub invariant-loop-number : goal.invariant-loop-number
 invariant-loop-number g l =
     let codes = g.S.Symbols.codes l.symbols in
     (l.place < 2 ^ 64) ×
-    Running g.Place.Count.number g.B.Count.number (tables l.book) codes (read (tables l.book) l.initial.mode 0 (drop l.initial.place codes)) l.initial.part l.part l.added l.number l.place l.mode
+    Running g.S.Place.Count.number g.B.Count.number (tables l.book) codes (read (tables l.book) l.initial.mode 0 (drop l.initial.place codes)) l.initial.part l.part l.added l.number l.place l.mode

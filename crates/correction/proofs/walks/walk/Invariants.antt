@@ -11,7 +11,7 @@ use Rattle.correction.proofs.walks.walk.Given as goal
 
 abbrev pub invariant-loop-here : goal.invariant-loop-here
 invariant-loop-here g l =
-    let n = g.Place.Count.number in
+    let n = g.S.Place.Count.number in
     let b = g.B.Count.number in
     let es = numbered n b l.entries in
     let codes = g.S.Symbols.codes l.symbols in
