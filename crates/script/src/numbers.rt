@@ -65,7 +65,7 @@ pub(crate) fn table_of(heap: Global, word: &[u8]) -> Result<Vec<u8>, Stop>
     ensures { MatchResult result (λ v. table_of word.now ≡ Ok v.items) (λ s. Stopped (table_of word.now) s) }
 {
     let mut table = Vec::new(heap);
-    if word == b"-" {
+    if word == b"-".as_slice() {
         return Ok(table);
     }
     if word.is_empty() {

@@ -30,5 +30,5 @@ returns g c =
     let long = length-map c.args.tokens.now (numbers (λ n. n.0) (λ n. n.0)) in
     let k = length_at c.args.tokens.now c.args.number.0 c.if-number-tokens.false in
     let Long-as = (get_or c.args.tokens.now c.args.number.0 blank).length.0 in
-    let a = copy_done s es c.args.number.0 b _ _ _ c.start-of-start.result c.read-into.new.part (omega arith) (sym k) (omega arith) (omega arith) (omega (arith, length-take (Long-as - 0) b)) c.read-into.ensures.small c.start-of-start.ensures c.read-into.ensures.part in
+    let a = copy_done s es c.args.number.0 b _ _ _ c.start_of-start.result c.read_into.new.part (omega arith) (sym k) (omega arith) (omega arith) (omega (arith, length-take (Long-as - 0) b)) c.read_into.ensures.small c.start_of-start.ensures c.read_into.ensures.part in
     record { answer = a; copied = λ w. a ∙ own s es c.args.number.0 b w }

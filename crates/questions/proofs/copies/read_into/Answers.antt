@@ -1,15 +1,15 @@
 use Rattle.std.proofs.Common.{◌≡◌, ◌+◌, ◌-◌, ◌<◌, length, sym, refl, ◌∙◌, arith}
 use Rattle.questions.proofs.Copied.{put_more, there, put_all}
 use Rattle.questions.proofs.copies.read_into.Goals as goal
-use Rattle.questions.proofs.copies.read_into.Goals.{in-Some, in-default}
+use Rattle.questions.proofs.copies.read_into.Goals.{in-Some, in_default}
 
 pub loop-offset-preserved : goal.loop-offset-preserved
 loop-offset-preserved g c =
     let s = g.S.TextStore.text c.args.store.now in
     let within : c.args.start + c.loop-offset.offset < length s = omega arith in
-    elim c.match-byte-at.branch [
+    elim c.match-byte_at.branch [
       | in-Some w ↦ w.part-is ∙ put_more s c.args.start c.args.part.now c.loop-offset.part c.loop-offset.offset _ c.loop-offset.invariant (omega arith) within w.in-Some.ensures
-      | in-default w ↦ absurd (there s c.args.start c.args.part.now c.loop-offset.offset within w.in-default.ensures)
+      | in_default w ↦ absurd (there s c.args.start c.args.part.now c.loop-offset.offset within w.in_default.ensures)
     ]
 
 pub returns : goal.returns

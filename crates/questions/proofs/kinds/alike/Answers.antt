@@ -16,4 +16,4 @@ pub returns : goal.returns
 returns c =
     let ls = numbered (λ n. n.0) (λ n. n.0) c.args.lines.now in
     let long = length-map c.args.lines.now (numbers (λ n. n.0) (λ n. n.0)) in
-    both_there (kinds_of c.args.tokens.now) ls c.args.a.0 c.args.b.0 _ _ c.same-kinds.result (omega arith) (omega arith) c.tokens-of-first.ensures c.tokens-of-second.ensures c.same-kinds.ensures
+    both_there (kinds_of c.args.tokens.now) ls c.args.a.0 c.args.b.0 _ _ c.same_kinds.result (omega arith) (omega arith) c.tokens_of-first.ensures c.tokens_of-second.ensures c.same_kinds.ensures

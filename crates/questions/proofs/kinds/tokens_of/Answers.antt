@@ -9,5 +9,5 @@ returns c =
     let ts = c.args.tokens.now in
     let ls = numbered (λ n. n.0) (λ n. n.0) c.args.lines.now in
     let long = ap (λ e. e.length) (numbered_at (λ n. n.0) (λ n. n.0) c.args.lines.now c.args.number _ c.requires) in
-    part_kinds ts ls c.args.number c.start-of.result c.min-start.result c.min-length.result _ (omega arith) c.start-of.ensures c.min-start.ensures
+    part_kinds ts ls c.args.number c.start_of.result c.min-start.result c.min-length.result _ (omega arith) c.start_of.ensures c.min-start.ensures
     (c.min-length.ensures ∙ ap (λ n. min n (length ts - c.min-start.result)) (sym long)) (omega arith)

@@ -9,5 +9,5 @@ loop-entry-init g c = omega (arith, start_none (numbered g.L.Count.number g.B.Co
 
 pub loop-entry-preserved : goal.loop-entry-preserved
 loop-entry-preserved g c =
-    sum_more g.L.Count.number g.B.Count.number c.args.entries.now (c.args.number - 0) c.loop-entry.entry-index c.entry-item.result c.loop-entry.sum c.saturating-add-sum.result
-    c.loop-entry-test.true c.entry-item.is c.loop-entry.invariant (c.saturating-add-sum.ensures ∙ ap (λ n. min (c.loop-entry.sum + n) (2 ^ 64 - 1)) c.get.ensures)
+    sum_more g.L.Count.number g.B.Count.number c.args.entries.now (c.args.number - 0) c.loop-entry.entry-index c.entry-item.result c.loop-entry.sum c.saturating_add-sum.result
+    c.loop-entry-test.true c.entry-item.is c.loop-entry.invariant (c.saturating_add-sum.ensures ∙ ap (λ n. min (c.loop-entry.sum + n) (2 ^ 64 - 1)) c.get.ensures)

@@ -17,18 +17,18 @@ returns-then-b-lt48 c =
     ] in
     sym (c.loop-b.invariant ∙ digits_bad word i c.loop-b.number c.loop-b-test.true bad)
 
-pub returns-in-default : goal.returns-in-default
-returns-in-default c =
+pub returns-in_default : goal.returns-in_default
+returns-in_default c =
     let word = c.args.word.now in
     let i = c.loop-b.b-index in
-    let large : 2 ^ 64 ≤ grown c.loop-b.number (get_or word i 0) = omega (arith, c.in-default.ensures) in
+    let large : 2 ^ 64 ≤ grown c.loop-b.number (get_or word i 0) = omega (arith, c.in_default.ensures) in
     sym (c.loop-b.invariant ∙ digits_large word i c.loop-b.number c.loop-b-test.true (omega arith) (omega arith) large)
 
-pub returns-in-default-checked-add : goal.returns-in-default-checked-add
-returns-in-default-checked-add c =
+pub returns-in_default-checked_add : goal.returns-in_default-checked_add
+returns-in_default-checked_add c =
     let word = c.args.word.now in
     let i = c.loop-b.b-index in
-    let large : 2 ^ 64 ≤ grown c.loop-b.number (get_or word i 0) = omega (arith, c.in-Some.ensures.1, c.in-default-checked-add.ensures) in
+    let large : 2 ^ 64 ≤ grown c.loop-b.number (get_or word i 0) = omega (arith, c.in-Some.ensures.1, c.in_default-checked_add.ensures) in
     sym (c.loop-b.invariant ∙ digits_large word i c.loop-b.number c.loop-b-test.true (omega arith) (omega arith) large)
 
 pub loop-b-preserved : goal.loop-b-preserved
@@ -36,8 +36,8 @@ loop-b-preserved c =
     let word = c.args.word.now in
     let i = c.loop-b.b-index in
     let n = c.loop-b.number in
-    let sum : grown n (get_or word i 0) ≡ c.in-Some-checked-add.sum = omega (arith, c.in-Some.ensures.1, c.in-Some-checked-add.ensures.1) in
-    let small : grown n (get_or word i 0) < 2 ^ 64 = omega (arith, c.in-Some.ensures.1, c.in-Some-checked-add.ensures.0) in
+    let sum : grown n (get_or word i 0) ≡ c.in-Some-checked_add.sum = omega (arith, c.in-Some.ensures.1, c.in-Some-checked_add.ensures.1) in
+    let small : grown n (get_or word i 0) < 2 ^ 64 = omega (arith, c.in-Some.ensures.1, c.in-Some-checked_add.ensures.0) in
     c.loop-b.invariant ∙ digits_more word i n c.loop-b-test.true (omega arith) (omega arith) small ∙ ap (λ m. digits m (drop (i + 1) word)) sum
 
 pub returns : goal.returns

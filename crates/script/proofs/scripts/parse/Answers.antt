@@ -19,7 +19,7 @@ returns-in-Err c =
       back = scripts_read_back;
       script =
           subst (λ b. Breaks (meaning input) b) (sym c.broken.ensures)
-          (stops rest _ _ (c.loop-rest.number + 1) (heard c.loop-rest.said) some c.split-line.ensures.line c.split-line.ensures.behind
+          (stops rest _ _ (c.loop-rest.number + 1) (heard c.loop-rest.said) some c.split_line.ensures.line c.split_line.ensures.behind
           (told 1 silence (lines_of input)) c.in-Err.stop c.loop-rest.invariant.1 c.in-Err.ensures);
     }
 
@@ -37,10 +37,10 @@ pub loop-rest-preserved : goal.loop-rest-preserved
 loop-rest-preserved c =
     let rest = c.loop-rest.rest.now in
     let some = eqb-false (length rest) 0 (sym c.loop-rest-test.ensures) in (
-      omega (arith, some, c.split-line.ensures.shorter),
+      omega (arith, some, c.split_line.ensures.shorter),
       c.loop-rest.invariant.1
-          ∙ line_taken rest _ _ (c.loop-rest.number + 1) (heard c.loop-rest.said) some c.split-line.ensures.line c.split-line.ensures.behind _ c.in-default.ensures,
-      line_within (heard c.loop-rest.said) _ c.split-line.result.0.now c.in-default.ensures c.loop-rest.invariant.2,
+          ∙ line_taken rest _ _ (c.loop-rest.number + 1) (heard c.loop-rest.said) some c.split_line.ensures.line c.split_line.ensures.behind _ c.in_default.ensures,
+      line_within (heard c.loop-rest.said) _ c.split_line.result.0.now c.in_default.ensures c.loop-rest.invariant.2,
     )
 
 pub returns : goal.returns

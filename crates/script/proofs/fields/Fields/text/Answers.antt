@@ -8,8 +8,8 @@ use Rattle.script.proofs.fields.Fields.text.Goals as goal
 pub returns : goal.returns
 returns c =
     let bytes = c.in-Some-eq34-default.bytes.now in
-    let read = c.in-ok-text.field-0 in
-    ap (λ o. on o quoted_in) c.in-ok-blank.ensures
+    let read = c.in_ok-text.field-0 in
+    ap (λ o. on o quoted_in) c.in_ok-blank.ensures
     ∙ quoted_at _ _ _ c.in-Some-eq34-default.ensures.cases.0 (search rules)
-    ∙ c.in-ok-text.ensures.read
+    ∙ c.in_ok-text.ensures.read
     ∙ ap (λ left. Ok (vec_items read.text, left)) (sym (take_rest bytes read.taken))

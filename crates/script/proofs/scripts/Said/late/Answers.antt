@@ -7,4 +7,4 @@ pub returns : goal.returns
 returns c =
     let rs = c.args.self.now.requests in
     let same : vec_len rs ≡ length (map asked (vec_items rs)) = omega (arith, length-map (vec_items rs) asked, rs.ok) in
-    ap not (c.is-empty.ensures ∙ ap (λ n. eqb n 0) same)
+    ap not (c.is_empty.ensures ∙ ap (λ n. eqb n 0) same)
