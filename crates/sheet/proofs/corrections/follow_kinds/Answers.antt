@@ -10,7 +10,7 @@ pub returns-in-Some : goal.returns-in-Some
 returns-in-Some c =
     let t = tables c.args.book.now in
     let e = edit_of (λ n. n.0) c.args.edit in
-    let codes = codes_before (λ n. n.0) (λ n. n.0) c.args.tokens.now c.saturating-sub-before-end.result c.saturating-sub-before-end.ensures in
+    let codes = codes_before (λ n. n.0) (λ n. n.0) c.args.tokens.now c.saturating_sub-before_end.result c.saturating_sub-before_end.ensures in
     let old = numbered (λ n. n.0) (λ n. n.0) (take c.args.count.0 c.args.memory.now) in
     let n = c.in-Some.reread.count.0 in
     let new = numbered (λ m. m.0) (λ m. m.0) (take n c.reread.new.memory) in
@@ -25,7 +25,7 @@ pub returns-in-None : goal.returns-in-None
 returns-in-None c =
     let t = tables c.args.book.now in
     let e = edit_of (λ n. n.0) c.args.edit in
-    let codes = codes_before (λ n. n.0) (λ n. n.0) c.args.tokens.now c.saturating-sub-before-end.result c.saturating-sub-before-end.ensures in
+    let codes = codes_before (λ n. n.0) (λ n. n.0) c.args.tokens.now c.saturating_sub-before_end.result c.saturating_sub-before_end.ensures in
     let old = numbered (λ n. n.0) (λ n. n.0) (take c.args.count.0 c.args.memory.now) in
     record {
       within = omega (arith, c.reread.auto.memory, c.requires);

@@ -6,9 +6,9 @@ use Rattle.sheet.proofs.sheets.Sheet.alike.Goals as goal
 
 pub returns : goal.returns
 returns g c =
-    let tokens = c.token-list-tokens.result.now in
-    let before-end = c.saturating-sub-before-end in
+    let tokens = c.token_list-tokens.result.now in
+    let before-end = c.saturating_sub-before_end in
     c.alike.ensures
     ∙ ap₂ (λ ks ls. alike_in ks ls c.args.a.0 c.args.b.0)
-    (codes_before (λ n. n.0) (λ n. n.0) tokens before-end.result before-end.ensures ∙ ap kinds c.token-list-tokens.ensures)
+    (codes_before (λ n. n.0) (λ n. n.0) tokens before-end.result before-end.ensures ∙ ap kinds c.token_list-tokens.ensures)
     c.line_list.ensures
