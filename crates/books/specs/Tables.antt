@@ -1,6 +1,6 @@
 -- What a book's tables mean: an automaton over symbol codes.
 -- A byte's code is the byte; a token's code is its kind.
-use Rattle.std.specs.Prelude.{ℕ, ◌+◌, ◌*◌, Bool, true, false, ◌&&◌, List, [], ◌∷◌, ◌==◌, slice_index, slice_index_or}
+use Rattle.std.specs.Prelude.{ℕ, ◌+◌, ◌*◌, Bool, true, ◌&&◌, List, [], ◌∷◌, ◌==◌, slice_index, slice_index_or}
 
 -- width is the number of classes, and so of the entries in a row of the step table
 pub record Tables : Type 0 where

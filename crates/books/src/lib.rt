@@ -1,4 +1,6 @@
 // Books: the tables of an automaton over symbol codes, and the check that makes a book of a draft of them.
+#![tactic(auto)]
+
 mod book;
 mod copies;
 mod draft;

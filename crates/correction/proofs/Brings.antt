@@ -1,5 +1,5 @@
 -- A list brought up to date: what was written, and the lookbacks given anew, make the list of the text after the edit.
-use Rattle.std.proofs.Common.{◌≡◌, ℕ, pred, ◌+◌, ◌-◌, ◌^◌, ◌<◌, ◌≤◌, not, eqb, ◌⊎◌, List, ◌++◌, length, take, drop, sym, refl, ap, ◌∙◌, subst, ap₂, subst₂, inl, inr, arith}
+use Rattle.std.proofs.Common.{◌≡◌, ℕ, pred, ◌+◌, ◌-◌, ◌^◌, ◌<◌, ◌≤◌, not, eqb, List, ◌++◌, length, take, drop, sym, refl, ap, ◌∙◌, subst, ap₂, subst₂, inl, inr, arith}
 use Rattle.std.proofs.lemmas.List.{length-take-le, take-append-drop, take_at}
 use Rattle.std.proofs.lemmas.Bool.{cases_lt}
 use Rattle.books.specs.Tables.{Tables}
@@ -20,7 +20,6 @@ use Rattle.reading.proofs.Batch.{batch_length}
 use Rattle.reading.proofs.Steps.{fresh_of}
 use Rattle.reading.proofs.Alike.{alike_length, given_to}
 use Rattle.reading.proofs.Correct.{batch_own, report_is, first_pointer, put_alike, put_begin, put_at, put_given, put_given_all, put_tail, put_limit}
-use Rattle.scanner.specs.Spots.{Fit}
 use Rattle.scanner.proofs.Written.{reach_within}
 use Rattle.correction.specs.Walks.{Met, Walked}
 use Rattle.correction.specs.Lookbacks.{Awaits, Given}

@@ -1,13 +1,11 @@
 -- The lookbacks given anew, in the numbers that the loop keeps.
-use Rattle.std.proofs.Common.{◌≡◌, ℕ, ◌+◌, ◌-◌, ◌^◌, ◌<◌, ◌≤◌, min, true, false, ◌⊎◌, List, ◌++◌, map, length, get_or, take, drop, set, sym, refl, ap, ◌∙◌, subst, ap₂, inl, inr, arith}
+use Rattle.std.proofs.Common.{◌≡◌, ℕ, ◌+◌, ◌-◌, ◌^◌, ◌<◌, ◌≤◌, min, true, false, ◌⊎◌, List, map, length, get_or, set, sym, ap, ◌∙◌, subst, inl, inr, arith}
 use Rattle.std.proofs.lemmas.List.{length-map, map-set}
 use Rattle.std.proofs.lemmas.Bool.{cases_lt}
-use Rattle.reading.specs.Reading.{Entry, start, at, reach, lookback, with_lookback, greatest}
+use Rattle.reading.specs.Reading.{Entry, start, at, reach, with_lookback, greatest}
 use Rattle.reading.specs.Report.{changed}
-use Rattle.reading.proofs.Lists.{start_more}
 use Rattle.reading.proofs.Tail.{greatest_more, greatest_less, changed_yes, changed_no}
-use Rattle.reading.proofs.Alike.{alike_start, alike_reach, alike_length, alike_extent, given_to}
-use Rattle.reading.proofs.Correct.{passed_alike}
+use Rattle.reading.proofs.Alike.{alike_start, alike_reach, alike_extent}
 use Rattle.reading.proofs.Giving.{Giving, giving_begins, giving_alike, giving_length, giving_at, giving_lookback, giving_more}
 use Rattle.scanner.specs.declared.entries.Entry.{Entry as Record}
 use Rattle.scanner.specs.Numbers.{numbers, numbered}

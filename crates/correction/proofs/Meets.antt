@@ -6,7 +6,7 @@ use Rattle.books.specs.Tables.{Tables}
 use Rattle.books.specs.Sound.{Sound}
 use Rattle.reading.specs.Reading.{Entry, entry, token, start, reach, batch}
 use Rattle.reading.specs.Laws.{mode_before}
-use Rattle.reading.specs.Report.{Edit, Edited, first, joins, rejoin, rejoined}
+use Rattle.reading.specs.Report.{Edit, Edited, first, joins}
 use Rattle.reading.proofs.Same.{batch_reach}
 use Rattle.reading.proofs.Rejoin.{edited_length}
 use Rattle.reading.proofs.Steps.{old_place, last_reach}

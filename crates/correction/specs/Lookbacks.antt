@@ -1,5 +1,5 @@
 -- What is known where lookbacks are given anew.
-use Rattle.std.specs.Prelude.{◌≡◌, ℕ, ◌+◌, ◌-◌, ◌<◌, ◌≤◌, ◌⊎◌, List, ◌++◌, map, length, take, drop}
+use Rattle.std.specs.Prelude.{◌≡◌, ℕ, ◌-◌, ◌<◌, ◌≤◌, ◌⊎◌, List, ◌++◌, map, length, take, drop}
 use Rattle.reading.specs.Reading.{Entry, start, at, reach, lookback, with_lookback, greatest}
 use Rattle.reading.specs.Report.{changed}
 use Rattle.scanner.specs.Spots.{Passed, Fit}

@@ -1,4 +1,6 @@
 // Re-reading after a correction, written once for symbols of every kind.
+#![tactic(auto)]
+
 mod boundaries;
 mod correct;
 mod edits;

@@ -1,4 +1,6 @@
 // Counts of bytes, of tokens and of lines: one struct each around a number, so that none is taken where another is due.
+#![tactic(auto)]
+
 ghost use Rattle.std.specs.Prelude.{◌≡◌, ℕ};
 
 // What a struct around a number gives generic code: the number, both ways.

@@ -1,4 +1,6 @@
 // Lists the tokens of a song sheet under the house token book.
+#![tactic(auto)]
+
 ghost use Rattle.std.specs.Prelude.{◌≡◌, ◌≤◌, length, IfOk, string_bytes};
 ghost use Rattle.counts.specs.declared.ByteCount.{ByteCount as Bytes};
 ghost use Rattle.reading.specs.Reading.{batch};

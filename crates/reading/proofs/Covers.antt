@@ -3,7 +3,7 @@ use Rattle.std.proofs.Common.{◌≡◌, ℕ, suc, ◌+◌, ◌-◌, ◌<◌, �
 use Rattle.std.proofs.lemmas.List.{length-drop}
 use Rattle.books.specs.Tables.{Tables}
 use Rattle.books.specs.Sound.{Sound}
-use Rattle.reading.specs.Reading.{Entry, greatest, read, at, lookback, with_lookback, listed, batch}
+use Rattle.reading.specs.Reading.{Entry, greatest, read, at, with_lookback, listed, batch}
 use Rattle.reading.specs.Report.{Edit, Edited, report, first, rejoin, rejoined, changed, Covers}
 use Rattle.reading.proofs.Greatest.{greatest_le, greatest_above}
 use Rattle.reading.proofs.Lookback.{length_listed, at_listed}

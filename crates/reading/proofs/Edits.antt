@@ -1,11 +1,11 @@
 -- Edits: of a text that is replaced in part, and of the kinds that a corrected list gives to the list above it.
-use Rattle.std.proofs.Common.{◌≡◌, ℕ, zero, suc, ◌+◌, ◌-◌, ◌<◌, ◌≤◌, cond, eqb, List, [], ◌∷◌, ◌++◌, map, length, take, drop, sym, refl, ap, ◌∙◌, subst₂, inl, inr, arith, drop-drop}
+use Rattle.std.proofs.Common.{◌≡◌, ℕ, zero, suc, ◌+◌, ◌-◌, ◌<◌, ◌≤◌, eqb, List, [], ◌∷◌, ◌++◌, map, length, take, drop, sym, refl, ap, ◌∙◌, subst₂, inl, inr, arith, drop-drop}
 use Rattle.std.proofs.lemmas.List.{length-append, length-take-le, take_at, drop_at, drop_all}
 use Rattle.std.proofs.lemmas.Bool.{cases_lt, cond-true, cond-false, eq-eqb, ne_eqb}
 use Rattle.books.specs.Tables.{Tables}
 use Rattle.books.specs.Sound.{Sound}
 use Rattle.reading.specs.Reading.{Entry, read, batch, kinds}
-use Rattle.reading.specs.Report.{Edit, edit, Edited, Report, report, first, rejoin, rejoined, through, edit_above}
+use Rattle.reading.specs.Report.{Edit, edit, Edited, report, first, rejoin, rejoined, through, edit_above}
 use Rattle.reading.proofs.Lists.{length_kinds}
 use Rattle.reading.proofs.Batch.{batch_kinds}
 use Rattle.reading.proofs.Same.{batch_count}

@@ -1,5 +1,5 @@
 -- Laws of batch reading, in the words of the subject. None of them says how a scan goes.
-use Rattle.std.specs.Prelude.{◌≡◌, ℕ, zero, suc, ◌+◌, ◌-◌, ◌<◌, ◌≤◌, Bool, true, false, cond, List, [], ◌∷◌, ◌++◌, map, length, take, drop, MatchBool, ◌==◌, ◌≢◌}
+use Rattle.std.specs.Prelude.{◌≡◌, ℕ, zero, suc, ◌+◌, ◌-◌, ◌<◌, ◌≤◌, cond, List, [], ◌∷◌, length, take, drop, MatchBool, ◌==◌, ◌≢◌}
 use Rattle.books.specs.Tables.{Tables, step, accept, kind_of, next_mode, start_state}
 use Rattle.reading.specs.Reading.{Entry, entry, stuck, token, at, start, reach, lookback, with_lookback}
 

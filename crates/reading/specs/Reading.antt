@@ -1,5 +1,5 @@
 -- Batch reading: the tokens of a text under a book, stated once for symbols of every kind.
-use Rattle.std.specs.Prelude.{ℕ, zero, suc, pred, ◌+◌, ◌-◌, Bool, true, false, cond, not, ◌||◌, List, [], ◌∷◌, length, ◌==◌, nat_lt, slice_index_or}
+use Rattle.std.specs.Prelude.{ℕ, zero, suc, pred, ◌+◌, ◌-◌, Bool, cond, not, ◌||◌, List, [], ◌∷◌, length, ◌==◌, nat_lt, slice_index_or}
 use Rattle.books.specs.Tables.{Tables, step, closed, accept, kind_of, next_mode, start_state}
 
 -- An entry of a list: a token, or a line, which is a token of tokens.

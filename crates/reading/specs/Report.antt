@@ -1,6 +1,6 @@
 -- What a correction reports: the list of the text before it and the list of the text after it, compared.
 -- Nothing here says how a program finds it.
-use Rattle.std.specs.Prelude.{◌≡◌, ℕ, zero, suc, pred, ◌+◌, ◌-◌, ◌<◌, ◌≤◌, Bool, true, false, cond, not, ◌&&◌, ltb, List, [], ◌∷◌, length, take, drop, ◌==◌, nat_eq, nat_le, nat_lt}
+use Rattle.std.specs.Prelude.{◌≡◌, ℕ, zero, suc, pred, ◌+◌, ◌-◌, ◌<◌, ◌≤◌, Bool, cond, not, ◌&&◌, ltb, List, length, take, drop, ◌==◌, nat_eq, nat_le, nat_lt}
 use Rattle.reading.specs.Reading.{Entry, at, start, reach, greatest, with_lookback}
 use Rattle.reading.specs.Laws.{mode_before}
 

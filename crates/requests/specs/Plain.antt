@@ -2,8 +2,6 @@
 use Rattle.std.specs.Prelude.{ℕ, List, Ok, Err, vec_items, Result}
 use Rattle.std.specs.Option.{option_map}
 use Rattle.counts.specs.declared.ByteCount.{ByteCount}
-use Rattle.counts.specs.declared.TokenCount.{TokenCount}
-use Rattle.counts.specs.declared.LineCount.{LineCount}
 use Rattle.scanner.specs.Numbers.{numbers}
 use Rattle.correction.specs.Walks.{report_of}
 use Rattle.requests.specs.declared.requests.Request.{Request}

@@ -9,7 +9,7 @@ use Rattle.text.specs.Replaced.{replaced}
 use Rattle.books.specs.Tables.{Tables}
 use Rattle.reading.specs.Reading.{Entry, batch, kinds, at, start}
 use Rattle.reading.specs.Laws.{total_length}
-use Rattle.reading.specs.Report.{Report, Edit, edit, report, edit_above, least, Covers}
+use Rattle.reading.specs.Report.{Edit, edit, report, edit_above, least, Covers}
 use Rattle.requests.specs.Asked.{Asked, correct, token, line, where_is, time, copy, alike, Reports, Answered, refused, reported, entry_is, stands, time_is, copied, not_copied, alike_is}
 
 -- the two lists of a text

@@ -1,4 +1,6 @@
 // What can be asked of a sheet, and what is answered.
+#![tactic(auto)]
+
 mod answers;
 mod faults;
 mod requests;

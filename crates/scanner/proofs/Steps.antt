@@ -1,5 +1,5 @@
 -- A scan in progress, over the codes of a source of symbols.
-use Rattle.std.proofs.Common.{◌≡◌, ℕ, zero, suc, ◌+◌, ◌<◌, ◌≤◌, true, false, List, [], ◌∷◌, length, drop, Some, None, Option, sym, refl, ap, ◌∙◌, subst, ap₂, add-zero, add_assoc, add-one, arith}
+use Rattle.std.proofs.Common.{◌≡◌, ℕ, zero, suc, ◌+◌, ◌<◌, ◌≤◌, true, false, List, [], ◌∷◌, length, drop, Some, None, Option, sym, refl, ap, ◌∙◌, subst, ap₂, add-zero, add_assoc, arith}
 use Rattle.std.specs.List.{slice_get}
 use Rattle.books.specs.Tables.{Tables, step, closed, accept, start_state}
 use Rattle.reading.specs.Reading.{Entry, entry, matched, token}
@@ -7,7 +7,7 @@ use Rattle.reading.specs.Laws.{LongestMatch, DependsOnRead}
 use Rattle.reading.proofs.Longest.{longest_match}
 use Rattle.reading.proofs.Local.{depends_on_read}
 use Rattle.scanner.specs.Scanned.{scanned, Stays}
-use Rattle.reading.proofs.Run.{Scan, scan, run, given_by, token_run, run_closed, run_end, run_none, run_step, run_accept}
+use Rattle.reading.proofs.Run.{scan, run, given_by, token_run, run_closed, run_end, run_none, run_step, run_accept}
 
 -- what is left of a list from a place on, by what stands at the place
 drop_some : (xs : List ℕ) (i x : ℕ) → slice_get xs i ≡ Some x → drop i xs ≡ x ∷ drop (suc i) xs

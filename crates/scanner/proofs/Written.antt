@@ -1,9 +1,9 @@
 -- Batch reading into memory, in progress.
-use Rattle.std.proofs.Common.{◌≡◌, ℕ, suc, ◌+◌, ◌<◌, ◌≤◌, List, [], ◌∷◌, ◌++◌, length, take, drop, set, sym, refl, ap, ◌∙◌, subst, ap₂, inl, inr, arith}
+use Rattle.std.proofs.Common.{◌≡◌, ℕ, suc, ◌+◌, ◌<◌, ◌≤◌, List, [], ◌∷◌, ◌++◌, length, take, drop, set, sym, refl, ap, ◌∙◌, ap₂, inl, inr, arith}
 use Rattle.std.proofs.lemmas.List.{length-drop, take_more_set, drop-set-lt, drop-drop, map_push, get_or_past}
 use Rattle.std.proofs.lemmas.Bool.{cases_order}
 use Rattle.books.specs.Tables.{Tables}
-use Rattle.reading.specs.Reading.{Entry, entry, token, read, start, reach, none}
+use Rattle.reading.specs.Reading.{entry, token, read, start, reach, none}
 use Rattle.reading.specs.Laws.{total_length}
 use Rattle.reading.proofs.Lists.{read_push, read_last, read_adds_up, read_each, read_end, mode_from, start_within}
 use Rattle.reading.proofs.Token.{token_some, token_within, token_reading_within}

@@ -1,4 +1,6 @@
 // Batch reading: the code that computes the entries of a text under a book, written once for symbols of every kind.
+#![tactic(auto)]
+
 mod entries;
 mod lists;
 mod lookbacks;

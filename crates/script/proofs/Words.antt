@@ -1,6 +1,6 @@
 -- Words that are this one, or another.
 use Rattle.std.proofs.Common.{◌≡◌, ℕ, Bool, true, false, cond, eqb, List, [], ◌∷◌, length, Ok, Err, codes, Decides, sym, refl, ap, ◌∙◌, inl, inr}
-use Rattle.std.specs.Cmp.Lexicographic.{Matches}
+use Rattle.std.specs.Cmp.Lexicographic.{pointwise}
 use Rattle.std.specs.Option.{ok_or}
 use Rattle.std.specs.Str.{bytes_eq}
 use Rattle.std.proofs.lemmas.Slice.Eq.{bytes_eq-Decides, slice_eq-Decides}
@@ -17,7 +17,7 @@ pub other_word : (w v : List ℕ) → (w ≡ v → ⊥) → bytes_eq w v ≡ fal
 other_word w v n = elim (cases_Bool (bytes_eq w v)) [ inl t ↦ absurd (n ((bytes_eq-Decides w v).0 t)) | inr f ↦ f ]
 
 -- a comparison that came out false
-pub unlike : (w v : List ℕ) (r : Bool) → Matches (λ (a b : ℕ) (t : Bool). Decides t (a ≡ b)) w v r → r ≡ false → w ≡ v → ⊥
+pub unlike : (w v : List ℕ) (r : Bool) → r ≡ pointwise eqb w v → r ≡ false → w ≡ v → ⊥
 unlike w v r m f e = both_ways r f ((slice_eq-Decides Decides-eqb w v r m).1 e)
 
 pub table_pairs : (w : List ℕ) → (length w ≡ 0 → ⊥) → (w ≡ codes "-" → ⊥) → table_of w ≡ ok_or (pairs w) Table
@@ -34,7 +34,7 @@ decided true false p q = sym (q.1 (p.0 refl))
 decided false true p q = p.1 (q.0 refl)
 
 -- a comparison of words
-pub compared : (w v : List ℕ) (r : Bool) → Matches (λ (a b : ℕ) (t : Bool). Decides t (a ≡ b)) w v r → r ≡ bytes_eq w v
+pub compared : (w v : List ℕ) (r : Bool) → r ≡ pointwise eqb w v → r ≡ bytes_eq w v
 compared w v r m = decided r (bytes_eq w v) (slice_eq-Decides Decides-eqb w v r m) (bytes_eq-Decides w v)
 
 -- down a list of questions: past a no, and at the first yes

@@ -1,4 +1,6 @@
 // The table that the programs print: a header, then a row of seven numbers for each entry of a list.
+#![tactic(auto)]
+
 ghost use Rattle.std.specs.Prelude.{◌≡◌, ℕ, ◌^◌, ◌<◌, ◌++◌, length, replicate, IfOk, string_bytes, OnOk};
 ghost use Rattle.std.specs.List.{flat_map};
 ghost use Rattle.reading.specs.Reading.{start as start_of_lem};

@@ -1,4 +1,6 @@
 // Text stores: a byte string in memory that is handed over, behind one interface, with two ways to keep it there.
+#![tactic(auto)]
+
 mod fault;
 mod flat;
 mod gap;

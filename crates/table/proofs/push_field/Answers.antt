@@ -1,4 +1,4 @@
-use Rattle.std.proofs.Common.{◌≡◌, ℕ, ◌-◌, ◌++◌, length, replicate, string_bytes, string_len, decimal, sym, ap, ◌∙◌}
+use Rattle.std.proofs.Common.{◌≡◌, ◌-◌, ◌++◌, length, replicate, string_bytes, decimal, ap, ◌∙◌}
 use Rattle.table.proofs.Behind.{behind}
 use Rattle.table.proofs.push_field.Goals as goal
 

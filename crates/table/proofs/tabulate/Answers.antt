@@ -1,6 +1,6 @@
-use Rattle.std.proofs.Common.{◌≡◌, ℕ, ◌+◌, ◌^◌, ◌<◌, ◌≤◌, ◌++◌, length, string_bytes, sym, ap, ◌∙◌, ap₂, arith}
+use Rattle.std.proofs.Common.{◌≡◌, ◌+◌, ◌^◌, ◌<◌, ◌≤◌, ◌++◌, length, sym, ap, ◌∙◌, ap₂, arith}
 use Rattle.std.proofs.lemmas.List.{length-map}
-use Rattle.reading.specs.Reading.{Entry, at, start}
+use Rattle.reading.specs.Reading.{at, start}
 use Rattle.scanner.specs.Numbers.{numbers, numbered}
 use Rattle.reading.proofs.Lists.{start_up}
 use Rattle.scanner.proofs.Starts.{numbered_at, start_none, start_more}

@@ -1,4 +1,4 @@
-use Rattle.std.proofs.Common.{◌≡◌, ◌+◌, ◌<◌, length, sym, refl, ap, ◌∙◌, arith}
+use Rattle.std.proofs.Common.{◌<◌, length, sym, refl, ap, ◌∙◌, arith}
 use Rattle.std.proofs.lemmas.List.{length-map}
 use Rattle.reading.specs.Reading.{start, reach}
 use Rattle.reading.specs.Report.{first}
@@ -7,7 +7,7 @@ use Rattle.reading.proofs.Lists.{mode_before_more}
 use Rattle.reading.proofs.Split.{start_zero}
 use Rattle.reading.proofs.First.{short_none, short_more}
 use Rattle.scanner.specs.Numbers.{numbers, numbered}
-use Rattle.scanner.proofs.Starts.{numbered_at, start_is}
+use Rattle.scanner.proofs.Starts.{numbered_at}
 use Rattle.correction.proofs.Sums.{read_at, sum_start, sum_reach, first_found}
 use Rattle.correction.proofs.boundaries.find_first.Goals as goal
 use Rattle.correction.proofs.boundaries.find_first.Goals.{then-loop-number-test+else-saturating_add-place, else-loop-number-test}

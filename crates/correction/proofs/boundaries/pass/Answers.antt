@@ -1,12 +1,10 @@
-use Rattle.std.proofs.Common.{◌≡◌, ℕ, ◌+◌, ◌<◌, ◌≤◌, length, sym, refl, ap, ◌∙◌, ap₂, subst₂, arith}
+use Rattle.std.proofs.Common.{◌≡◌, ◌<◌, ◌≤◌, length, sym, ap, ◌∙◌, arith}
 use Rattle.std.proofs.lemmas.List.{length-map}
-use Rattle.reading.specs.Reading.{start, reach}
+use Rattle.reading.specs.Reading.{start}
 use Rattle.reading.specs.Laws.{mode_before}
 use Rattle.reading.proofs.Lists.{mode_before_more}
 use Rattle.scanner.specs.Numbers.{numbers, numbered}
-use Rattle.scanner.proofs.Starts.{numbered_at, start_is}
-use Rattle.correction.specs.Boundaries.{Passes}
-use Rattle.correction.proofs.Sums.{read_at, passes_known, sum_start, sum_reach, Passing, passing_none, passing_more, passing_all}
+use Rattle.correction.proofs.Sums.{read_at, passes_known, sum_start, sum_reach, passing_none, passing_more, passing_all}
 use Rattle.correction.proofs.boundaries.pass.Goals as goal
 use Rattle.correction.proofs.boundaries.pass.Goals.{then-loop-number-test+else-start-place, else-loop-number-test}
 

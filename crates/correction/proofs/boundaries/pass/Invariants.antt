@@ -3,7 +3,6 @@ use Rattle.reading.specs.Reading.{start}
 use Rattle.reading.specs.Laws.{mode_before}
 use Rattle.scanner.specs.Numbers.{numbered}
 use Rattle.scanner.specs.Spots.{Fit}
-use Rattle.correction.specs.Boundaries.{Stands}
 use Rattle.correction.proofs.Sums.{Passing}
 use Rattle.correction.proofs.boundaries.pass.Given as goal
 

@@ -1,4 +1,4 @@
-use Rattle.std.proofs.Common.{◌≡◌, ℕ, ◌+◌, ◌<◌, ◌⊎◌, sym, ap, ◌∙◌, inl, inr, arith, below_more}
+use Rattle.std.proofs.Common.{◌≡◌, ◌<◌, ◌⊎◌, sym, ap, ◌∙◌, inl, inr, arith, below_more}
 use Rattle.reading.specs.Reading.{start, reach}
 use Rattle.scanner.specs.Numbers.{numbered}
 use Rattle.scanner.proofs.Starts.{numbered_at, start_is}

@@ -1,11 +1,10 @@
-use Rattle.std.proofs.Common.{◌≡◌, ◌+◌, ◌-◌, ◌^◌, ◌<◌, ◌≤◌, min, ◌⊎◌, length, take, set, sym, refl, ap, ◌∙◌, subst, inl, inr, arith}
+use Rattle.std.proofs.Common.{◌≡◌, ◌+◌, ◌-◌, ◌<◌, ◌≤◌, ◌⊎◌, length, take, sym, refl, ap, ◌∙◌, subst, inl, inr, arith}
 use Rattle.std.proofs.lemmas.List.{length-map, take-set-le}
-use Rattle.reading.specs.Reading.{start, at, with_lookback}
 use Rattle.scanner.specs.Numbers.{numbers, numbered}
-use Rattle.scanner.proofs.Starts.{numbered_at, start_is}
+use Rattle.scanner.proofs.Starts.{start_is}
 use Rattle.reading.proofs.Giving.{giving_length}
 use Rattle.correction.specs.Lookbacks.{Awaits}
-use Rattle.correction.proofs.Gives.{numbered_set, Turning, turning_begins, turning_fit, turning_starts, turning_stands, turning_written, turning_ends}
+use Rattle.correction.proofs.Gives.{Turning, turning_begins, turning_written, turning_ends}
 use Rattle.correction.proofs.lookbacks.give_lookbacks.Goals as goal
 use Rattle.correction.proofs.lookbacks.give_lookbacks.Goals.{then-get-lookback, else-get-lookback, else-loop-number-test, then-loop-number-test+then-beyond}
 

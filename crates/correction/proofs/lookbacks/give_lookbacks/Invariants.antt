@@ -1,4 +1,4 @@
-use Rattle.std.proofs.Common.{◌≡◌, ℕ, ◌≤◌, List, length, take}
+use Rattle.std.proofs.Common.{◌≡◌, ◌≤◌, List, take}
 use Rattle.reading.specs.Reading.{Entry, start}
 use Rattle.scanner.specs.Numbers.{numbered}
 use Rattle.correction.specs.Lookbacks.{Awaits}

@@ -1,4 +1,4 @@
-use Rattle.std.proofs.Common.{◌≡◌, ◌+◌, ◌-◌, sym, ap, ◌∙◌, arith}
+use Rattle.std.proofs.Common.{◌≡◌, ◌+◌, ◌-◌, ap, arith}
 use Rattle.reading.specs.Reading.{start, at}
 use Rattle.reading.proofs.Lists.{start_more}
 use Rattle.scanner.specs.Numbers.{numbered}

@@ -1,4 +1,4 @@
-use Rattle.std.proofs.Common.{◌+◌, ◌^◌, ◌<◌, length, refl, ap, arith}
+use Rattle.std.proofs.Common.{◌+◌, ◌^◌, ◌<◌, refl, ap, arith}
 use Rattle.books.specs.Meaning.{tables}
 use Rattle.correction.proofs.Runs.{Ran, running_none, running_more, running_all, scanned_within}
 use Rattle.correction.proofs.splices.write_run.Goals as goal

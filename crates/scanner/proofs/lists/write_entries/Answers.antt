@@ -1,4 +1,4 @@
-use Rattle.std.proofs.Common.{length, arith}
+use Rattle.std.proofs.Common.{arith}
 use Rattle.std.proofs.lemmas.List.{length-set}
 use Rattle.books.specs.Meaning.{tables}
 use Rattle.scanner.proofs.Written.{token_sized, writing_more, writing_all, left}

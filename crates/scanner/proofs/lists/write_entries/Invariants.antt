@@ -1,4 +1,4 @@
-use Rattle.std.proofs.Common.{◌≡◌, ◌-◌, length}
+use Rattle.std.proofs.Common.{◌-◌, length}
 use Rattle.books.specs.Meaning.{tables}
 use Rattle.scanner.proofs.Written.{Writing}
 use Rattle.scanner.proofs.lists.write_entries.Given as goal

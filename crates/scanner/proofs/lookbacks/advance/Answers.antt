@@ -1,4 +1,4 @@
-use Rattle.std.proofs.Common.{◌≡◌, ℕ, ◌+◌, ◌-◌, ◌<◌, ◌⊎◌, ap, ◌∙◌, inl, inr, arith, below_more}
+use Rattle.std.proofs.Common.{◌≡◌, ◌+◌, ◌-◌, ◌<◌, ◌⊎◌, ap, ◌∙◌, inl, inr, arith, below_more}
 use Rattle.reading.specs.Reading.{start, reach, lookback}
 use Rattle.reading.proofs.Lookback.{lookback_is}
 use Rattle.scanner.specs.Numbers.{numbered}

@@ -1,4 +1,4 @@
-use Rattle.std.proofs.Common.{◌≡◌, ℕ, ◌+◌, ◌<◌, length, Some, sym, ap, ◌∙◌, arith, below_more}
+use Rattle.std.proofs.Common.{◌≡◌, ℕ, ◌+◌, ◌<◌, length, Some, sym, ◌∙◌, arith, below_more}
 use Rattle.std.specs.List.{slice_get}
 use Rattle.books.specs.Tables.{step}
 use Rattle.books.specs.Meaning.{tables}

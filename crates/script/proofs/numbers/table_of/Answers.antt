@@ -10,14 +10,14 @@ use Rattle.script.proofs.numbers.table_of.Goals as goal
 pub returns-then-word-ne0 : goal.returns-then-word-ne0
 returns-then-word-ne0 c =
     let word = c.args.word.now in
-    table_pairs word (eqb-false (length word) 0 (sym c.if-is_empty.ensures)) (unlike _ _ _ c.eq.ensures c.if-eq.false)
+    table_pairs word (eqb-false (length word) 0 (sym c.if-is_empty.ensures)) (λ e. unlike word _ _ c.eq.ensures c.if-eq.false (e ∙ sym c.as_slice.ensures))
     ∙ ap (λ o. ok_or o Table) (pairs_odd word c.if-word-ne0.true)
 
 pub returns-in_default : goal.returns-in_default
 returns-in_default c =
     let word = c.args.word.now in
     let room : 2 * c.loop-i.i + 1 < length word = omega arith in
-    table_pairs word (eqb-false (length word) 0 (sym c.if-is_empty.ensures)) (unlike _ _ _ c.eq.ensures c.if-eq.false)
+    table_pairs word (eqb-false (length word) 0 (sym c.if-is_empty.ensures)) (λ e. unlike word _ _ c.eq.ensures c.if-eq.false (e ∙ sym c.as_slice.ensures))
     ∙ ap (λ o. ok_or o Table) (pairs_bad word c.loop-i.i (vec_items c.loop-i.table) room (sym c.in_default.ensures) c.loop-i.invariant)
 
 pub loop-i-preserved : goal.loop-i-preserved
@@ -32,5 +32,5 @@ pub returns : goal.returns
 returns c =
     let word = c.args.word.now in
     let all : length word ≤ 2 * c.loop-i.i = omega arith in
-    table_pairs word (eqb-false (length word) 0 (sym c.if-is_empty.ensures)) (unlike _ _ _ c.eq.ensures c.if-eq.false)
+    table_pairs word (eqb-false (length word) 0 (sym c.if-is_empty.ensures)) (λ e. unlike word _ _ c.eq.ensures c.if-eq.false (e ∙ sym c.as_slice.ensures))
     ∙ ap (λ o. ok_or o Table) (pairs_all word c.loop-i.i (vec_items c.loop-i.table) all c.loop-i.invariant)
