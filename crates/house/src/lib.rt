@@ -1,4 +1,6 @@
 // The house books: the token book and the line book of song sheets, with what their kinds mean.
+#![tactic(auto)]
+
 mod lines;
 mod tokens;
 

@@ -1,5 +1,5 @@
 -- Sheets and corrections under the house books, worked by hand, named by their contents. t are the tables of the token book and l those of the line book.
-use Rattle.std.specs.Prelude.{◌≡◌, ℕ, List, [], ◌∷◌, Some, codes}
+use Rattle.std.specs.Prelude.{◌≡◌, ℕ, Some, codes}
 use Rattle.books.specs.Tables.{Tables}
 use Rattle.house.specs.Sheets.{WorkedSheets}
 use Rattle.requests.specs.Asked.{Answered, reported, time_is, correct, time}

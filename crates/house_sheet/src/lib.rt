@@ -1,4 +1,6 @@
 // The two house books as a sheet has them, with worked sheets and corrections.
+#![tactic(auto)]
+
 ghost use Rattle.std.specs.Prelude.{◌≡◌};
 ghost use Rattle.books.specs.Meaning.{tables};
 ghost use Rattle.house.specs.House.{house_tokens, house_lines};

@@ -1,4 +1,6 @@
 // The questions to a sheet, answered from its lists and its text as they are handed over.
+#![tactic(auto)]
+
 mod copies;
 mod kinds;
 mod places;

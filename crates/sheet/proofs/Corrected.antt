@@ -1,8 +1,7 @@
 -- What both re-readings of a correction meet, and what they report together.
-use Rattle.std.proofs.Common.{◌≡◌, ℕ, ◌+◌, ◌-◌, ◌<◌, ◌≤◌, List, length, take, vec_items, vec_len, sym, refl, ap, ◌∙◌, subst, ap₂, subst₂, arith}
+use Rattle.std.proofs.Common.{◌≡◌, ℕ, ◌+◌, ◌≤◌, List, length, take, vec_items, vec_len, sym, ap, ◌∙◌, subst, ap₂, subst₂, arith}
 use Rattle.text.specs.Replaced.{replaced}
 use Rattle.books.specs.Tables.{Tables}
-use Rattle.books.specs.Sound.{Sound}
 use Rattle.books.specs.Meaning.{tables}
 use Rattle.books.proofs.Facts.{book_sound}
 use Rattle.reading.specs.Reading.{Entry, batch, kinds}
@@ -18,7 +17,7 @@ use Rattle.counts.specs.declared.LineCount.{LineCount}
 use Rattle.correction.specs.Promise.{Brought}
 use Rattle.correction.specs.Walks.{Met}
 use Rattle.requests.specs.Asked.{Reports}
-use Rattle.requests.specs.Sheets.{token_list, line_list, reports}
+use Rattle.requests.specs.Sheets.{line_list, reports}
 use Rattle.sheet.specs.declared.sheets.Sheet.{Sheet}
 use Rattle.sheet.specs.Lists.{Right}
 

@@ -1,5 +1,5 @@
 -- An item of a list that stands at the front of a memory.
-use Rattle.std.proofs.Common.{◌≡◌, ℕ, zero, suc, ◌<◌, ◌≤◌, List, [], ◌∷◌, map, length, get_or, take, Some, None, Option, refl, ap, arith}
+use Rattle.std.proofs.Common.{◌≡◌, ℕ, zero, suc, ◌<◌, ◌≤◌, List, [], ◌∷◌, map, length, get_or, take, Some, None, refl, ap, arith}
 use Rattle.std.specs.List.{slice_get}
 
 pub nth_there : {X Y : Type 0} (f : X → Y) (xs : List X) (n i : ℕ) (x : X) → i < n → i < length xs → x ≡ get_or xs i x → Some (f x) ≡ slice_get (map f (take n xs)) i

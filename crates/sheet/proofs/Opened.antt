@@ -1,5 +1,5 @@
 -- What is known where no question to an opening gets a no.
-use Rattle.std.proofs.Common.{◌≡◌, ℕ, ◌<◌, ◌≤◌, Bool, true, false, ltb, leb, Some, None, Option, refl, arith}
+use Rattle.std.proofs.Common.{◌≡◌, ℕ, ◌<◌, ◌≤◌, Bool, true, false, ltb, leb, None, refl, arith}
 use Rattle.std.proofs.lemmas.Bool.{leb-true, ltb-true}
 use Rattle.requests.specs.declared.faults.SheetFault.{SheetFault}
 use Rattle.sheet.specs.Opening.{asked, unopened}

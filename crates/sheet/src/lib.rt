@@ -1,4 +1,6 @@
 // A sheet: a text in a store, with the lists of its tokens and of its lines, which stay right after every correction.
+#![tactic(auto)]
+
 mod asking;
 mod corrections;
 mod opening;

@@ -1,4 +1,4 @@
-use Rattle.std.proofs.Common.{◌≡◌, ◌+◌, ◌-◌, ◌<◌, length, sym, refl, ◌∙◌, arith}
+use Rattle.std.proofs.Common.{◌+◌, ◌<◌, length, ◌∙◌, arith}
 use Rattle.questions.proofs.Copied.{put_more, there, put_all}
 use Rattle.questions.proofs.copies.read_into.Goals as goal
 use Rattle.questions.proofs.copies.read_into.Goals.{in-Some, in_default}

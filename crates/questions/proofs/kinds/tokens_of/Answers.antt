@@ -1,4 +1,4 @@
-use Rattle.std.proofs.Common.{◌≡◌, ◌-◌, min, length, sym, ap, ◌∙◌, arith}
+use Rattle.std.proofs.Common.{◌-◌, min, length, sym, ap, ◌∙◌, arith}
 use Rattle.scanner.proofs.Starts.{numbered_at}
 use Rattle.scanner.specs.Numbers.{numbered}
 use Rattle.questions.proofs.Compared.{part_kinds}

@@ -1,4 +1,4 @@
-use Rattle.std.proofs.Common.{◌≡◌, ◌+◌, ◌-◌, ◌^◌, min, sym, ap, ◌∙◌, arith}
+use Rattle.std.proofs.Common.{◌+◌, ◌-◌, ◌^◌, min, ap, ◌∙◌, arith}
 use Rattle.scanner.specs.Numbers.{numbered}
 use Rattle.scanner.proofs.Starts.{start_none}
 use Rattle.questions.proofs.Sums.{sum_more}

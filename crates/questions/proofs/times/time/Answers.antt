@@ -1,4 +1,4 @@
-use Rattle.std.proofs.Common.{◌≡◌, sym, ◌∙◌, arith}
+use Rattle.std.proofs.Common.{◌∙◌, arith}
 use Rattle.std.proofs.lemmas.Bool.{ltb-true, ltb-false}
 use Rattle.questions.proofs.Stamps.{no_stamp, a_stamp, read_digits, no_digits}
 use Rattle.questions.proofs.times.time.Goals as goal

@@ -1,4 +1,4 @@
-use Rattle.std.proofs.Common.{length, arith}
+use Rattle.std.proofs.Common.{length}
 use Rattle.books.specs.Meaning.{tables}
 use Rattle.sheet.proofs.Lists.{enough, count_within}
 use Rattle.sheet.proofs.opening.read_text.Goals as goal
