@@ -1,7 +1,6 @@
 -- A history grows by one request at a time.
-use Rattle.std.proofs.Common.{◌≡◌, ℕ, zero, suc, ◌+◌, ◌<◌, ◌≤◌, List, [], ◌∷◌, ◌++◌, length, get_or, Some, None, Option, sym, refl, ap, ◌∙◌, subst, subst₂, inl, inr, arith}
+use Rattle.std.proofs.Common.{◌≡◌, ℕ, zero, suc, ◌+◌, ◌<◌, ◌≤◌, List, [], ◌∷◌, ◌++◌, length, get_or, Some, None, sym, refl, ap, ◌∙◌, subst₂, inl, inr, arith}
 use Rattle.std.specs.List.{slice_get}
-use Rattle.std.proofs.lemmas.Option.{slice_get-get_or}
 use Rattle.std.proofs.lemmas.List.{length_push, get_or_push, get_or_append_left}
 use Rattle.std.proofs.lemmas.Bool.{cases_lt}
 use Rattle.text.specs.Replaced.{replaced}
@@ -11,7 +10,7 @@ use Rattle.reading.specs.Reading.{Entry, kinds}
 use Rattle.reading.specs.Report.{edit, Edited, report, edit_above}
 use Rattle.reading.proofs.Covers.{covers}
 use Rattle.reading.proofs.Edits.{replaced_edited, kinds_edited}
-use Rattle.requests.specs.Asked.{Asked, correct, token, Answered, entry_is}
+use Rattle.requests.specs.Asked.{Asked, correct, token, Answered}
 use Rattle.requests.specs.Sheets.{token_list, line_list, reports, refusal, answer, text_after, text_at, Outside, History}
 use Rattle.sheet.proofs.Texts.{text_before, text_last, taken_within, text_taken}
 

@@ -1,5 +1,5 @@
 -- What each request to a sheet comes to, where its lists are those of its text.
-use Rattle.std.proofs.Common.{◌≡◌, ℕ, suc, ◌+◌, ◌≤◌, Bool, cond, ltb, List, length, is_some, IfOk, Some, None, Ok, Err, Option, Result, sym, refl, ap, ◌∙◌, subst, ap₂, subst₂, arith, MatchResult}
+use Rattle.std.proofs.Common.{◌≡◌, ℕ, suc, Bool, cond, ltb, List, length, IfOk, Some, None, Ok, Err, Option, Result, sym, refl, ap, ◌∙◌, subst, ap₂, subst₂, arith, MatchResult}
 use Rattle.std.specs.Option.{option_map}
 use Rattle.std.specs.Result.{result_err}
 use Rattle.std.specs.List.{slice_get}
@@ -8,7 +8,7 @@ use Rattle.text.specs.Refused as store
 use Rattle.text.specs.Replaced.{replaced}
 use Rattle.books.specs.Tables.{Tables}
 use Rattle.books.specs.Meaning.{tables}
-use Rattle.reading.specs.Reading.{Entry, batch, kinds, start, at}
+use Rattle.reading.specs.Reading.{Entry, batch, kinds}
 use Rattle.reading.specs.Report.{edit}
 use Rattle.reading.proofs.Lists.{start_step, start_within}
 use Rattle.reading.proofs.Batch.{batch_adds_up}

@@ -1,4 +1,6 @@
 // The history of a sheet: any list of requests made to it, one after the other, and the whole promise over it.
+#![tactic(auto)]
+
 mod histories;
 mod making;
 mod outcomes;

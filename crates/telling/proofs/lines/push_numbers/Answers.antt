@@ -9,7 +9,7 @@ loop-n-preserved c =
     let i = c.loop-n.n-index in
     let was = string_bytes c.args.out.now in
     let f : ℕ → List ℕ = λ n. 32 ∷ decimal n in
-    c.in-ok-push-number.ensures
+    c.in_ok-push_number.ensures
     ∙ ap (λ xs. xs ++ f (get_or ns i 0)) c.loop-n.invariant
     ∙ flat_map_more f was (take i ns) (get_or ns i 0)
     ∙ ap (λ xs. was ++ flat_map f xs) (sym (take_more ns i 0 c.loop-n-test.true))

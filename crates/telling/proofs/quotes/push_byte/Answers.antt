@@ -9,13 +9,13 @@ pub returns-in-Some : goal.returns-in-Some
 unfolding lib.Utf8.encode
 returns-in-Some c =
     let was = string_bytes c.args.out.now in
-    behind was (92 ∷ []) (c.in-Some.letter ∷ []) c.in-ok-push.ensures.bytes
-    (c.in-ok-push-2.ensures.bytes
-    ∙ ap (λ xs. string_bytes c.push.new.self ++ xs) (c.in-ok-push-2.ensures.ascii c.in-Some.ensures.ascii))
+    behind was (92 ∷ []) (c.in-Some.letter ∷ []) c.in_ok-push.ensures.bytes
+    (c.in_ok-push-2.ensures.bytes
+    ∙ ap (λ xs. string_bytes c.push.new.self ++ xs) (c.in_ok-push-2.ensures.ascii c.in-Some.ensures.ascii))
     ∙ ap (λ o. was ++ shown_as c.args.b o) c.in-Some.ensures.value
 
 -- the byte is not shown as itself
-hidden : (c : goal.In-ok-push-hex) → (leb 32 c.args.b && leb c.args.b 126) ≡ false
+hidden : (c : goal.In_ok-push_hex) → (leb 32 c.args.b && leb c.args.b 126) ≡ false
 hidden c =
     let b = c.args.b in
     elim c.else-b-ge32.either [
@@ -28,6 +28,6 @@ returns c =
     let b = c.args.b in
     let was = string_bytes c.args.out.now in
     let hexes : List ℕ = 92 ∷ 120 ∷ digit_char (b / 16) ∷ digit_char (b % 16) ∷ [] in
-    c.in-ok-push-hex.ensures
+    c.in_ok-push_hex.ensures
     ∙ ap (λ xs. was ++ xs) (sym (cond-false (leb 32 b && leb b 126) (b ∷ []) hexes (hidden c)))
-    ∙ ap (λ o. was ++ shown_as b o) c.in-default.ensures.value
+    ∙ ap (λ o. was ++ shown_as b o) c.in_default.ensures.value
