@@ -2,7 +2,7 @@
 ghost use Rattle.std.specs.Prelude.{◌≡◌, IfOk, Decides};
 ghost use Rattle.counts.specs.declared.ByteCount.{ByteCount as Bytes};
 ghost use Rattle.scanner.specs.Numbers.{numbered};
-ghost use Rattle.conformance.specs.Spans.{spans as spans-in, spans_of};
+ghost use Rattle.conformance.specs.Spans.{spans as spans_in, spans_of};
 
 use crate::vectors::Span;
 use anyhow::anyhow;
@@ -12,7 +12,7 @@ use std::alloc::{AllocError, Global};
 
 // Kinds and lengths of these tokens.
 fn spans(heap: Global, tokens: &[Token]) -> Result<Vec<Span>, AllocError>
-    ensures { IfOk result (λ v. v.items ≡ spans-in (numbered (λ c. c.0) (λ c. c.0) tokens.now)) }
+    ensures { IfOk result (λ v. v.items ≡ spans_in (numbered (λ c. c.0) (λ c. c.0) tokens.now)) }
 {
     let mut all = Vec::new(heap);
     for token in tokens {

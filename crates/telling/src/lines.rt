@@ -2,7 +2,7 @@
 ghost use Rattle.std.specs.Prelude.{◌≡◌, ℕ, List, [], ◌∷◌, ◌++◌, IfOk, Ok, string_bytes, codes, decimal, OnOk};
 ghost use Rattle.scanner.specs.Numbers.{numbers as Numbers-of};
 ghost use Rattle.requests.specs.Plain.{plain};
-ghost use Rattle.telling.specs.Lines.{spaced, line as line_of, line_with, three as three-of, five as five-of, eight as eight-of, refusal_line, answer_line, broken_line};
+ghost use Rattle.telling.specs.Lines.{spaced, line as line_of, line_with, three as three_of, five as five_of, eight as eight_of, refusal_line, answer_line, broken_line};
 ghost use Rattle.script.specs.Texts.{text_of};
 ghost use Rattle.script.specs.Shown.{escaped};
 ghost use Rattle.telling.specs.Wrongs.{words as words_of};
@@ -59,7 +59,7 @@ fn row_with(heap: Global, name: &str, numbers: &[usize], text: &[u8]) -> Result<
 }
 
 fn three(refusal: Refusal) -> [usize; 3]
-    ensures { result ≡ three-of refusal }
+    ensures { result ≡ three_of refusal }
 {
     [
         refusal.layer as usize,
@@ -69,7 +69,7 @@ fn three(refusal: Refusal) -> [usize; 3]
 }
 
 fn five<L: Count, B: Count>(entry: &Entry<L, B>) -> [usize; 5]
-    ensures { result ≡ five-of (Numbers-of L.Count.number B.Count.number entry.now) }
+    ensures { result ≡ five_of (Numbers-of L.Count.number B.Count.number entry.now) }
 {
     [
         entry.kind as usize,
@@ -95,7 +95,7 @@ pub fn text_line(heap: Global, text: &[u8]) -> Result<String, AllocError>
 }
 
 fn eight(reports: &Reports) -> [usize; 8]
-    ensures { result ≡ eight-of (plain reports.now) }
+    ensures { result ≡ eight_of (plain reports.now) }
 {
     let Reports { tokens, lines } = *reports;
     [

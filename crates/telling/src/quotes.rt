@@ -1,7 +1,7 @@
 // Texts as they are printed: in double quotes, with escapes.
 ghost use Rattle.std.specs.Prelude.{◌≡◌, ◌/◌, ◌%◌, ◌<◌, [], ◌∷◌, ◌++◌, IfSome, string_bytes, OnOk};
 ghost use Rattle.std.specs.Char.{digit_char};
-ghost use Rattle.script.specs.Shown.{short as short-of, shown, quoted};
+ghost use Rattle.script.specs.Shown.{short as short_of, shown, quoted};
 
 use std::alloc::AllocError;
 
@@ -20,7 +20,7 @@ fn hex_char(digit: u8) -> char
 
 // The letter that stands behind a backslash for a byte.
 fn short(b: u8) -> Option<u8>
-    ensures value { result ≡ short-of b }
+    ensures value { result ≡ short_of b }
     ensures ascii { IfSome result (λ l. l < 128) }
 {
     match b {

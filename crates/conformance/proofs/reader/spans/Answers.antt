@@ -14,7 +14,7 @@ pub loop-token-preserved : goal.loop-token-preserved
 loop-token-preserved c =
     let more = map_more (numbers (λ n. n.0) (λ n. n.0)) c.args.tokens.now c.loop-token.token-index none c.loop-token-test.true in
     let told = ap spans more ∙ map_push span _ _ in
-    let pushed = c.in-ok-push.ensures.items in
+    let pushed = c.in_ok-push.ensures.items in
     cc
 
 pub returns : goal.returns

@@ -24,6 +24,6 @@ closing-requires g c =
     let tokens : total_length (tokens_of sheet) ≡ length xs = ap total_length history.token_list_of ∙ batch_adds_up t xs in
     let lines : total_length (lines_of sheet) ≡ length (kinds (batch t xs)) = ap total_length history.line_list_of ∙ batch_adds_up l (kinds (batch t xs)) in
     record {
-      token-total = omega (arith, tokens, short);
-      line-total = omega (arith, lines, length_kinds (batch t xs), batch_length t xs, short);
+      token_total = omega (arith, tokens, short);
+      line_total = omega (arith, lines, length_kinds (batch t xs), batch_length t xs, short);
     }

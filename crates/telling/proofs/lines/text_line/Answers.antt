@@ -5,6 +5,6 @@ use Rattle.telling.proofs.lines.text_line.Goals as goal
 pub returns : goal.returns
 returns c =
     record {
-      back = λ rest. reads_back c.args.text.now rest (λ k. omega (arith, c.type-inv.text k));
+      back = λ rest. reads_back c.args.text.now rest (λ k. omega (arith, c.type_inv.text k));
       line = search rules;
     }
