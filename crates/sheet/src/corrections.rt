@@ -18,25 +18,26 @@ ghost use Rattle.sheet.specs.Lists.{Right, Keeps};
 use crate::sheets::Sheet;
 use books::Book;
 use correction::{Edit, Report, Reread, reread};
-use counts::{ByteCount, LineCount, TokenCount};
+use counts::{ByteCount, Count, LineCount, TokenCount};
 use requests::{Reports, SheetFault};
 use scanner::{Kinds, Line, StoreBytes, Token};
 use text::TextStore;
 
 // A report of nothing, for a list that is left as it is. No list of a text is.
-const NO_TOKENS: Report<TokenCount> = Report {
-    first: TokenCount(0),
-    out: TokenCount(0),
-    added: TokenCount(0),
-    tail: TokenCount(0),
-};
-
-const NO_LINES: Report<LineCount> = Report {
-    first: LineCount(0),
-    out: LineCount(0),
-    added: LineCount(0),
-    tail: LineCount(0),
-};
+fn left<B: Count>(count: B) -> Reread<B>
+    ensures { result.count ≡ count }
+{
+    let none = B::of(0);
+    Reread {
+        count,
+        report: Report {
+            first: none,
+            out: none,
+            added: none,
+            tail: none,
+        },
+    }
+}
 
 // Reads the tokens again after the edit that gave the store its text.
 fn follow_text<S: TextStore>(
@@ -52,10 +53,7 @@ fn follow_text<S: TextStore>(
 {
     match reread(book, &StoreBytes(store), memory, count, edit) {
         Some(reread) => reread,
-        None => Reread {
-            count,
-            report: NO_TOKENS,
-        },
+        None => left(count),
     }
 }
 
@@ -74,10 +72,7 @@ fn follow_kinds(
     let before_end = tokens.len().saturating_sub(1);
     match reread(book, &Kinds(&tokens[0..before_end]), memory, count, edit) {
         Some(reread) => reread,
-        None => Reread {
-            count,
-            report: NO_LINES,
-        },
+        None => left(count),
     }
 }
 

@@ -1,4 +1,4 @@
-use Rattle.std.proofs.Common.{length, take, sym, subst, arith}
+use Rattle.std.proofs.Common.{length, take, sym, ap, subst, arith}
 use Rattle.books.specs.Meaning.{tables}
 use Rattle.scanner.specs.Numbers.{numbered}
 use Rattle.correction.specs.Promise.{Brought}
@@ -28,6 +28,6 @@ returns-in-None c =
     let codes = codes_before (λ n. n.0) (λ n. n.0) c.args.tokens.now c.saturating_sub-before_end.result c.saturating_sub-before_end.ensures in
     let old = numbered (λ n. n.0) (λ n. n.0) (take c.args.count.0 c.args.memory.now) in
     record {
-      within = omega (arith, c.reread.auto.memory, c.requires);
+      within = omega (arith, ap (λ n. n.0) c.left.ensures, c.reread.auto.memory, c.requires);
       reread = λ xs m. absurd (c.in-None.ensures.rereads xs (subst (λ ys. Met t e xs ys old (length c.args.memory.now)) (sym codes) m));
     }
