@@ -1,5 +1,7 @@
 // Measures the reader on a sheet from standard input, over both stores: a fresh reading of tokens and lines and one of the tokens alone, a correction of one byte at the front, in the middle and at the end,
 // and a paste of 1000 bytes. Prints what each comes to; with a number of rounds as its argument also how long that many rounds take.
+#![tactic(auto)]
+
 mod measures;
 mod rounds;
 

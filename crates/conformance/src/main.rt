@@ -1,4 +1,6 @@
 // Compares the tokens that the proved reader gives with flex's: standard input has sheets and flex's tokens for each.
+#![tactic(auto)]
+
 mod reader;
 mod vectors;
 

@@ -1,4 +1,6 @@
 // Lists the tokens of a song sheet from standard input.
+#![tactic(auto)]
+
 use lister::{LIMIT, list};
 use std::io;
 use std::io::Read;

@@ -14,17 +14,16 @@ both s t h = grind (arith, nat_tests)
 
 -- two spans are the same where kind and length are
 same_span : (a b : Span) → Decides (eq_of_both (on (λ (v : Span). v.kind) nat_eq) (on (λ (v : Span). v.length) nat_eq) a b) (a ≡ b)
-same_span a b =
-    (
-      λ h.
-        let e = both (eqb a.kind b.kind) (eqb a.length b.length) h in
-        let make : ℕ → ℕ → Span = λ k l. record { kind = k; length = l } in
-        ap₂ make (eqb-true a.kind b.kind e.0) (eqb-true a.length b.length e.1),
-      λ e.
-        let k : a.kind ≡ b.kind = ap (λ (v : Span). v.kind) e in
-        let l : a.length ≡ b.length = ap (λ (v : Span). v.length) e in
-        both_true (eq-eqb a.kind b.kind k) (eq-eqb a.length b.length l),
-    )
+same_span a b = (
+  λ h.
+      let e = both (eqb a.kind b.kind) (eqb a.length b.length) h in
+      let make : ℕ → ℕ → Span = λ k l. record { kind = k; length = l } in
+      ap₂ make (eqb-true a.kind b.kind e.0) (eqb-true a.length b.length e.1),
+  λ e.
+      let k : a.kind ≡ b.kind = ap (λ (v : Span). v.kind) e in
+      let l : a.length ≡ b.length = ap (λ (v : Span). v.length) e in
+      both_true (eq-eqb a.kind b.kind k) (eq-eqb a.length b.length l),
+)
 
 pub returns : goal.returns
 returns c =

@@ -1,4 +1,4 @@
-use Rattle.std.proofs.Common.{◌≡◌, ap, ◌∙◌}
+use Rattle.std.proofs.Common.{ap, ◌∙◌}
 use Rattle.std.proofs.lemmas.List.{map_more, map_push, take_all}
 use Rattle.counts.specs.declared.ByteCount.{ByteCount}
 use Rattle.counts.specs.declared.TokenCount.{TokenCount}
