@@ -1,5 +1,5 @@
 -- What is written as a field is read as that field.
-use Rattle.std.proofs.Common.{◌≡◌, ℕ, suc, ◌+◌, ◌-◌, ◌/◌, ◌%◌, ◌^◌, ◌<◌, ◌≤◌, Bool, true, false, cond, ◌&&◌, eqb, ltb, leb, List, [], ◌∷◌, ◌++◌, length, Some, Ok, Err, codes, decimal, Result, sym, refl, ap, ◌∙◌, subst, ap₂, arith}
+use Rattle.std.proofs.Common.{◌≡◌, ℕ, suc, ◌+◌, ◌/◌, ◌%◌, ◌^◌, ◌<◌, ◌≤◌, Bool, true, false, cond, ◌&&◌, eqb, ltb, leb, List, [], ◌∷◌, ◌++◌, length, Some, Ok, Err, codes, decimal, Result, sym, refl, ap, ◌∙◌, subst, ap₂, arith}
 use Rattle.std.specs.Option.{ok_or}
 use Rattle.std.specs.Char.{digit_char}
 use Rattle.std.proofs.lemmas.Fmt.{decimal_by_steps}
@@ -16,7 +16,7 @@ use Rattle.script.specs.Commands.{Instruction, store, opening_text, memory, toke
 use Rattle.script.specs.Fields.{front, onward, field, grown, digits, number_of, onto, pairs, table_of, number_in, size_in, table_in, text_in, at_end}
 use Rattle.script.specs.Laws.{number_out, text_out, hexes, table_out, kind_out, plan_out, request_out, Bytes, SayablePlan, SayableRequest, LinesReadBack}
 use Rattle.script.specs.Steps.{on}
-use Rattle.script.proofs.Back.{pair_chars, reads_back}
+use Rattle.script.proofs.Back.{pair_chars, quoted_back}
 use Rattle.script.proofs.Words.{table_pairs}
 
 -- a word without a blank, and what is left behind it
@@ -125,7 +125,7 @@ table_back (b ∷ x) t h e =
     (table_pairs (hexes (b ∷ x)) (λ z. omega (arith, z)) (λ z. omega (arith, ap length z)) ∙ ap (λ o. ok_or o Table) (pairs_back (b ∷ x) h))
 
 text_back : (x t : List ℕ) → Bytes x → text_in (text_out x t) ≡ Ok (x, t)
-text_back x t h = reads_back x t h
+text_back x t h = quoted_back x t h
 
 table_ends : (x t : List ℕ) → Ends (table_out x t)
 table_ends [] t = refl

@@ -1,7 +1,8 @@
 -- What is printed of a text is read back as the text.
-use Rattle.std.proofs.Common.{◌≡◌, ℕ, suc, ◌+◌, ◌/◌, ◌%◌, ◌<◌, cond, ◌&&◌, eqb, leb, List, [], ◌∷◌, ◌++◌, get_or, Some, None, Ok, Result, sym, refl, ap, ◌∙◌, subst, ap₂, inl, inr, append_assoc, arith}
+use Rattle.std.proofs.Common.{◌≡◌, ℕ, suc, ◌/◌, ◌%◌, ◌<◌, cond, ◌&&◌, eqb, leb, List, [], ◌∷◌, ◌++◌, get_or, Some, None, Ok, Result, sym, refl, ap, ◌∙◌, subst, ap₂, inl, inr, append_assoc, arith}
 use native.Mathlib.Nat.{div-add-mod}
 use Rattle.std.specs.Char.{digit_char}
+use Rattle.std.specs.Result.{result_ok}
 use Rattle.std.proofs.lemmas.Bool.{cases_eq, cond-false, cond_both, ne_eqb}
 use Rattle.std.proofs.lemmas.Bool.Decides.{nat_tests}
 use Rattle.script.specs.declared.wrong.Wrong.{Wrong}
@@ -10,7 +11,9 @@ use Rattle.script.specs.declared.texts.Spot.TheVariants.{Plain, Slash}
 use Rattle.script.specs.declared.texts.Move.TheVariants.{Close, Give, Go}
 use Rattle.script.specs.Hex.{hex, both, pair}
 use Rattle.script.specs.Shown.{short, shown_as, shown, escaped}
-use Rattle.script.specs.Texts.{given, behind, going, reading, text_of}
+use Rattle.script.specs.Texts.{given, text_of}
+use Rattle.script.specs.Quoted.{then_read, on_move, read_from, quoted_text}
+use Rattle.script.proofs.Spelt.{read_as}
 
 pub hex_char : (d : ℕ) → d < 16 → hex (digit_char d) ≡ Some d
 hex_char d h = grind (arith, nat_tests)
@@ -22,14 +25,14 @@ pair_chars b h =
     ap₂ both (hex_char (b / 16) high) (hex_char (b % 16) low) ∙ ap Some (div-add-mod b 16)
 
 -- a byte by two hex digits
-by_digits : (b h l : ℕ) (t : List ℕ) → pair h l ≡ Some b → reading (92 ∷ 120 ∷ h ∷ l ∷ t) Plain ≡ behind (b ∷ []) (reading t Plain)
-by_digits b h l t e = ap (λ o. going (given o) t (λ p. reading t p)) e
+by_digits : (b h l : ℕ) (t : List ℕ) → pair h l ≡ Some b → read_from (92 ∷ 120 ∷ h ∷ l ∷ t) Plain ≡ then_read (b ∷ []) (read_from t Plain)
+by_digits b h l t e = ap (λ o. on_move (given o) t (λ p. read_from t p)) e
 
 -- a byte that stands for itself
-itself : (b : ℕ) (t : List ℕ) → (b ≡ 34 → ⊥) → (b ≡ 92 → ⊥) → reading (b ∷ t) Plain ≡ behind (b ∷ []) (reading t Plain)
+itself : (b : ℕ) (t : List ℕ) → (b ≡ 34 → ⊥) → (b ≡ 92 → ⊥) → read_from (b ∷ t) Plain ≡ then_read (b ∷ []) (read_from t Plain)
 itself b t q s =
-    let from : Spot → Result (List ℕ × List ℕ) Wrong = λ p. reading t p in
-    ap (λ m. going m t from) (cond-false (eqb b 34) Close (cond (eqb b 92) (Go Slash) (Give b)) (ne_eqb b 34 q) ∙ cond-false (eqb b 92) (Go Slash) (Give b) (ne_eqb b 92 s))
+    let from : Spot → Result (List ℕ × List ℕ) Wrong = λ p. read_from t p in
+    ap (λ m. on_move m t from) (cond-false (eqb b 34) Close (cond (eqb b 92) (Go Slash) (Give b)) (ne_eqb b 34 q) ∙ cond-false (eqb b 92) (Go Slash) (Give b) (ne_eqb b 92 s))
 
 pub unnamed : (b : ℕ) → (b ≡ 92 → ⊥) → (b ≡ 34 → ⊥) → (b ≡ 10 → ⊥) → (b ≡ 13 → ⊥) → (b ≡ 9 → ⊥) → short b ≡ None
 unnamed b s q n r t =
@@ -40,16 +43,16 @@ unnamed b s q n r t =
     ∙ cond-false (eqb b 9) (Some 116) None (ne_eqb b 9 t)
 
 -- a byte that no letter stands for
-rest : (b : ℕ) (t : List ℕ) → b < 256 → (b ≡ 34 → ⊥) → (b ≡ 92 → ⊥) → reading (shown_as b None ++ t) Plain ≡ behind (b ∷ []) (reading t Plain)
+rest : (b : ℕ) (t : List ℕ) → b < 256 → (b ≡ 34 → ⊥) → (b ≡ 92 → ⊥) → read_from (shown_as b None ++ t) Plain ≡ then_read (b ∷ []) (read_from t Plain)
 rest b t h q s =
     let hexes : List ℕ = 92 ∷ 120 ∷ digit_char (b / 16) ∷ digit_char (b % 16) ∷ [] in
-    cond_both (leb 32 b && leb b 126) (b ∷ []) hexes (λ xs. reading (xs ++ t) Plain ≡ behind (b ∷ []) (reading t Plain))
+    cond_both (leb 32 b && leb b 126) (b ∷ []) hexes (λ xs. read_from (xs ++ t) Plain ≡ then_read (b ∷ []) (read_from t Plain))
     (λ _. itself b t q s)
     (λ _. by_digits b (digit_char (b / 16)) (digit_char (b % 16)) t (pair_chars b h))
 
-pub one : (b : ℕ) (t : List ℕ) → b < 256 → reading (shown b ++ t) Plain ≡ behind (b ∷ []) (reading t Plain)
+pub one : (b : ℕ) (t : List ℕ) → b < 256 → read_from (shown b ++ t) Plain ≡ then_read (b ∷ []) (read_from t Plain)
 one b t h =
-    let P : ℕ → Type 0 = λ x. reading (shown x ++ t) Plain ≡ behind (x ∷ []) (reading t Plain) in
+    let P : ℕ → Type 0 = λ x. read_from (shown x ++ t) Plain ≡ then_read (x ∷ []) (read_from t Plain) in
     elim (cases_eq b 92) [
       | inl e ↦ subst P (sym e) refl
       | inr s ↦
@@ -65,16 +68,19 @@ one b t h =
                             elim (cases_eq b 9) [
                               | inl e ↦ subst P (sym e) refl
                               | inr k ↦
-                                  subst (λ o. reading (shown_as b o ++ t) Plain ≡ behind (b ∷ []) (reading t Plain)) (sym (unnamed b s q n r k)) (rest b t h q s)
+                                  subst (λ o. read_from (shown_as b o ++ t) Plain ≡ then_read (b ∷ []) (read_from t Plain)) (sym (unnamed b s q n r k)) (rest b t h q s)
                             ]
                       ]
                 ]
           ]
     ]
 
-pub reads_back : (s : List ℕ) (rest : List ℕ) → ((k : ℕ) → get_or s k 0 < 256) → text_of (escaped s ++ (34 ∷ rest)) ≡ Ok (s, rest)
-reads_back [] rest h = refl
-reads_back (b ∷ s) rest h =
-    ap (λ xs. reading xs Plain) (append_assoc (shown b) (escaped s) (34 ∷ rest))
+pub quoted_back : (s : List ℕ) (rest : List ℕ) → ((k : ℕ) → get_or s k 0 < 256) → quoted_text (escaped s ++ (34 ∷ rest)) ≡ Ok (s, rest)
+quoted_back [] rest h = refl
+quoted_back (b ∷ s) rest h =
+    ap (λ xs. read_from xs Plain) (append_assoc (shown b) (escaped s) (34 ∷ rest))
     ∙ one b (escaped s ++ (34 ∷ rest)) (h 0)
-    ∙ ap (behind (b ∷ [])) (reads_back s rest (λ k. h (suc k)))
+    ∙ ap (then_read (b ∷ [])) (quoted_back s rest (λ k. h (suc k)))
+
+pub reads_back : (s : List ℕ) (rest : List ℕ) → ((k : ℕ) → get_or s k 0 < 256) → text_of (escaped s ++ (34 ∷ rest)) ≡ Some (s, rest)
+reads_back s rest h = read_as (escaped s ++ (34 ∷ rest)) Plain ∙ ap result_ok (quoted_back s rest h)

@@ -7,7 +7,7 @@ use Rattle.std.proofs.lemmas.Slice.Eq.{bytes_eq-Decides, slice_eq-Decides}
 use Rattle.std.proofs.lemmas.Bool.{cases_Bool, cond-true, cond-false, eq-eqb, both_ways}
 use Rattle.script.specs.declared.wrong.Wrong.TheVariants.{NoText, Table}
 use Rattle.script.specs.Fields.{pairs, table_of, quoted_in}
-use Rattle.script.specs.Texts.{text_of}
+use Rattle.script.specs.Quoted.{quoted_text}
 use Rattle.std.proofs.lemmas.Bool.Decides.{Decides-eqb}
 
 pub same_word : (w v : List ℕ) → w ≡ v → bytes_eq w v ≡ true
@@ -24,8 +24,8 @@ pub table_pairs : (w : List ℕ) → (length w ≡ 0 → ⊥) → (w ≡ codes "
 table_pairs [] ne nd = absurd (ne refl)
 table_pairs (b ∷ bs) ne nd = cond-false (bytes_eq (b ∷ bs) (codes "-")) (Ok []) (ok_or (pairs (b ∷ bs)) Table) (other_word (b ∷ bs) (codes "-") nd)
 
-pub quoted_at : (s bs : List ℕ) (b : ℕ) → s ≡ b ∷ bs → b ≡ 34 → quoted_in s ≡ text_of bs
-quoted_at s bs b e q = ap quoted_in e ∙ cond-true (eqb b 34) (text_of bs) (Err NoText) (eq-eqb b 34 q)
+pub quoted_at : (s bs : List ℕ) (b : ℕ) → s ≡ b ∷ bs → b ≡ 34 → quoted_in s ≡ quoted_text bs
+quoted_at s bs b e q = ap quoted_in e ∙ cond-true (eqb b 34) (quoted_text bs) (Err NoText) (eq-eqb b 34 q)
 
 decided : {P : Type 0} (r s : Bool) → Decides r P → Decides s P → r ≡ s
 decided true true p q = refl

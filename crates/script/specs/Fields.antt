@@ -6,7 +6,7 @@ use Rattle.script.specs.declared.wrong.Wrong.{Wrong}
 use Rattle.script.specs.declared.wrong.Wrong.TheVariants.{Missing, Left, Number, TooLarge, OverLimit, NoText, Table}
 use Rattle.script.specs.Hex.{pair}
 use Rattle.script.specs.Steps.{on}
-use Rattle.script.specs.Texts.{text_of}
+use Rattle.script.specs.Quoted.{quoted_text}
 
 -- the bytes before the first that is e, and those from it on
 abbrev pub front : ℕ → List ℕ → List ℕ
@@ -69,7 +69,7 @@ table_in s = field table_of s
 -- a text begins with a double quote
 abbrev pub quoted_in : List ℕ → Result (List ℕ × List ℕ) Wrong
 quoted_in [] = Err NoText
-quoted_in (b ∷ bs) = cond (b == 34) (text_of bs) (Err NoText)
+quoted_in (b ∷ bs) = cond (b == 34) (quoted_text bs) (Err NoText)
 
 abbrev pub text_in : List ℕ → Result (List ℕ × List ℕ) Wrong
 text_in s = on (past_blank s) quoted_in

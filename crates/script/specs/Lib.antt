@@ -1,5 +1,6 @@
 pub mod Hex
 pub mod Texts
+pub mod Quoted
 pub mod Shown
 pub mod Steps
 pub mod Fields

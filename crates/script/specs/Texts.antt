@@ -1,11 +1,9 @@
 -- What a text between double quotes stands for.
-use Rattle.std.specs.Prelude.{ℕ, cond, List, [], ◌∷◌, ◌++◌, Some, None, Ok, Err, Option, Result, ◌==◌}
+use Rattle.std.specs.Prelude.{ℕ, cond, List, [], ◌∷◌, ◌++◌, Some, None, Option, ◌==◌}
 use Rattle.script.specs.declared.texts.Spot.{Spot}
 use Rattle.script.specs.declared.texts.Spot.TheVariants.{Plain, Slash, Digits, Half}
 use Rattle.script.specs.declared.texts.Move.{Move}
 use Rattle.script.specs.declared.texts.Move.TheVariants.{Close, Give, Go, Fail}
-use Rattle.script.specs.declared.wrong.Wrong.{Wrong}
-use Rattle.script.specs.declared.wrong.Wrong.TheVariants.{OpenText, Escape}
 use Rattle.script.specs.Hex.{pair}
 
 -- the byte of an escape of one letter: n, r, t, backslash and double quote
@@ -29,20 +27,20 @@ moves Digits b = Go (Half b)
 moves (Half h) b = given (pair h b)
 
 -- some bytes, then what was read behind them
-abbrev pub behind : List ℕ → Result (List ℕ × List ℕ) Wrong → Result (List ℕ × List ℕ) Wrong
-behind bs (Ok x) = Ok (bs ++ x.0, x.1)
-behind bs (Err w) = Err w
+abbrev pub behind : List ℕ → Option (List ℕ × List ℕ) → Option (List ℕ × List ℕ)
+behind bs None = None
+behind bs (Some x) = Some (bs ++ x.0, x.1)
 
-abbrev pub going : Move → List ℕ → (Spot → Result (List ℕ × List ℕ) Wrong) → Result (List ℕ × List ℕ) Wrong
-going Close bs from = Ok ([], bs)
+abbrev pub going : Move → List ℕ → (Spot → Option (List ℕ × List ℕ)) → Option (List ℕ × List ℕ)
+going Close bs from = Some ([], bs)
 going (Give b) bs from = behind (b ∷ []) (from Plain)
 going (Go q) bs from = from q
-going Fail bs from = Err Escape
+going Fail bs from = None
 
-abbrev pub reading : List ℕ → Spot → Result (List ℕ × List ℕ) Wrong
-reading [] q = Err OpenText
+abbrev pub reading : List ℕ → Spot → Option (List ℕ × List ℕ)
+reading [] q = None
 reading (b ∷ bs) q = going (moves q b) bs (λ p. reading bs p)
 
--- the text that begins behind an opening quote, and what is left behind its closing one; or the first escape that is none, or that the text is not closed
-abbrev pub text_of : List ℕ → Result (List ℕ × List ℕ) Wrong
+-- the text that begins behind an opening quote, and what is left behind its closing one; none where an escape is none or the text is not closed
+abbrev pub text_of : List ℕ → Option (List ℕ × List ℕ)
 text_of bs = reading bs Plain

@@ -1,11 +1,13 @@
 // Bytes at the front of others.
-ghost use Rattle.std.specs.Prelude.{◌≡◌, ◌-◌, ◌≤◌, length, take, drop};
+ghost use Rattle.std.specs.Prelude.{◌≡◌, ℕ, ◌-◌, ◌<◌, ◌≤◌, length, take, drop, ◌≢◌, slice_index};
 ghost use Rattle.script.specs.Fields.{front, onward};
 
 // How many bytes stand before the first one that is this.
 pub(crate) fn until(bytes: &[u8], end: u8) -> usize
     ensures within { result ≤ length bytes.now }
-    ensures before { take result bytes.now ≡ front end bytes.now }
+    ensures before { (k : ℕ) → k < result → slice_index bytes.now k ≢ end }
+    ensures found { result < length bytes.now → slice_index bytes.now result ≡ end }
+    ensures front { take result bytes.now ≡ front end bytes.now }
     ensures behind { drop result bytes.now ≡ onward end bytes.now }
 {
     for (i, b) in bytes.iter().enumerate() {

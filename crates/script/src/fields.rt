@@ -1,5 +1,5 @@
 // The fields of a line, one behind the other.
-ghost use Rattle.std.specs.Prelude.{◌≡◌, [], Ok, Err, MatchResult};
+ghost use Rattle.std.specs.Prelude.{◌≡◌, ◌≤◌, [], IfOk, Ok, Err, MatchResult};
 ghost use Rattle.script.specs.Fields.{front, onward, past_blank, number_in, size_in, table_in, text_in, at_end};
 ghost use Rattle.script.specs.Steps.{Stopped};
 
@@ -50,7 +50,8 @@ impl<'a> Fields<'a> {
 
     // A number that is at most the limit.
     pub(crate) fn size(&mut self) -> Result<usize, Wrong>
-        ensures { MatchResult result (λ n. size_in self.old.rest.now ≡ Ok (n, self.new.rest.now)) (λ w. size_in self.old.rest.now ≡ Err w) }
+        ensures limit { IfOk result (λ n. n ≤ 1000000) }
+        ensures read { MatchResult result (λ n. size_in self.old.rest.now ≡ Ok (n, self.new.rest.now)) (λ w. size_in self.old.rest.now ≡ Err w) }
     {
         let number = self.number()?;
         if number > LIMIT {

@@ -1,4 +1,6 @@
 // Scripts of a history: a sheet to be opened and the requests to it, read from bytes.
+#![tactic(auto)]
+
 mod bytes;
 mod commands;
 mod fields;

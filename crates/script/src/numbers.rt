@@ -1,5 +1,5 @@
 // Numbers and tables of a script.
-ghost use Rattle.std.specs.Prelude.{◌≡◌, ◌<◌, IfSome, Ok, MatchResult};
+ghost use Rattle.std.specs.Prelude.{◌≡◌, ◌+◌, ◌-◌, ◌*◌, ◌<◌, IfSome, IfOk, Ok, MatchResult, fold};
 ghost use Rattle.script.specs.Fields.{number_of, table_of};
 ghost use Rattle.script.specs.Hex.{hex, pair as pair_of};
 ghost use Rattle.script.specs.Steps.{Stopped};
@@ -12,7 +12,8 @@ pub(crate) const LIMIT: usize = 1_000_000;
 
 // The number that the digits stand for in base ten.
 pub(crate) fn number_of(word: &[u8]) -> Result<usize, Wrong>
-    ensures { result ≡ number_of word.now }
+    ensures value { IfOk result (λ n. n ≡ fold (λ a b. a * 10 + (b - 48)) 0 word.now) }
+    ensures read { result ≡ number_of word.now }
 {
     if word.is_empty() {
         return Err(Wrong::Missing);

@@ -27,7 +27,9 @@ pub struct Plan {
 impl Plan {
     // The same counts and tables, lent.
     pub fn draft(&self) -> Draft<'_>
-        ensures { plan result ≡ planned self.now }
+        ensures counts { (result.states ≡ self.now.states) × (result.classes ≡ self.now.classes) × (result.modes ≡ self.now.modes) × (result.rules ≡ self.now.rules) }
+        ensures tables { (result.class_table.now ≡ self.now.class_table.items) × (result.step_table.now ≡ self.now.step_table.items) × (result.accept_table.now ≡ self.now.accept_table.items) × (result.rule_table.now ≡ self.now.rule_table.items) × (result.start_table.now ≡ self.now.start_table.items) }
+        ensures plan { plan result ≡ planned self.now }
     {
         Draft {
             states: self.states,

@@ -1,5 +1,7 @@
 // A whole script.
-ghost use Rattle.std.specs.Prelude.{◌≡◌, ◌≤◌, Ok, Err, MatchResult};
+ghost use Rattle.std.specs.Prelude.{◌≡◌, ◌+◌, ◌^◌, ◌<◌, ◌≤◌, true, false, [], is_some, Some, None, Ok, Err, vec_items, MatchResult};
+ghost use Rattle.std.specs.Option.{option_map, unwrap_or};
+ghost use Rattle.script.specs.declared.scripts.StoreKind.TheVariants.{Gap};
 ghost use Rattle.script.specs.Laws.{LinesReadBack, ScriptsReadBack};
 ghost use Rattle.script.specs.Plain.{instruction, heard, written, broken_at, Breaks};
 ghost use Rattle.script.specs.Scripts.{filled, silence, has_asked, taken_in, line_in, store_of, script_of, meaning};
@@ -44,18 +46,26 @@ pub struct Said {
     requests: Vec<Request>,
 }
 
-// Puts what a set-up line says into its place, unless it comes behind a request or something is there.
-fn put<T: Drop>(place: &mut Option<T>, value: T, late: bool) -> Result<(), Wrong>
-    ensures { MatchResult result (λ _. filled late place.old value ≡ Ok place.new) (λ w. filled late place.old value ≡ Err w) }
+// Puts what a set-up line says into its place, unless something is there.
+fn put<T: Drop>(place: &mut Option<T>, value: T) -> Result<(), Wrong>
+    ensures placed { MatchResult result (λ _. (place.old ≡ None) × (place.new ≡ Some value)) (λ w. (is_some place.old ≡ true) × (place.new ≡ place.old)) }
+    ensures filled { MatchResult result (λ _. filled false place.old value ≡ Ok place.new) (λ w. filled false place.old value ≡ Err w) }
 {
-    if late {
-        return Err(Wrong::Late);
-    }
     if place.is_some() {
         return Err(Wrong::Twice);
     }
     *place = Some(value);
     Ok(())
+}
+
+// Puts what a set-up line says into its place, unless it comes behind a request or something is there.
+fn fill<T: Drop>(place: &mut Option<T>, value: T, late: bool) -> Result<(), Wrong>
+    ensures { MatchResult result (λ _. filled late place.old value ≡ Ok place.new) (λ w. filled late place.old value ≡ Err w) }
+{
+    if late {
+        return Err(Wrong::Late);
+    }
+    put(place, value)
 }
 
 impl Said {
@@ -74,8 +84,11 @@ impl Said {
 
     // The script, with the defaults for what was not said.
     fn script(self, heap: Global) -> Script
-        requires { (store_of (heard self)).1 ≤ 1000000 }
-        ensures { written result ≡ script_of (heard self) }
+        ensures store { (result.kind, result.capacity) ≡ unwrap_or self.store (Gap, 4096) }
+        ensures memory { result.capacity + 1 < 2 ^ 64 → (result.token_records, result.line_records) ≡ unwrap_or self.memory (result.capacity + 1, result.capacity + 1) }
+        ensures text { result.text.items ≡ unwrap_or (option_map vec_items self.text) [] }
+        ensures rest { (result.token_book ≡ self.token_book) × (result.line_book ≡ self.line_book) × (result.requests ≡ self.requests) }
+        ensures written { (store_of (heard self)).1 ≤ 1000000 → written result ≡ script_of (heard self) }
     {
         let Said {
             store,
@@ -86,7 +99,7 @@ impl Said {
             requests,
         } = self;
         let (kind, capacity) = store.unwrap_or((StoreKind::Gap, 4096));
-        let records = capacity + 1;
+        let records = capacity.saturating_add(1);
         let (token_records, line_records) = memory.unwrap_or((records, records));
         let text = match text {
             Some(text) => text,
@@ -117,11 +130,11 @@ impl Said {
     {
         let late = self.late();
         match command {
-            Command::Store(kind, capacity) => Ok(put(&mut self.store, (kind, capacity), late)?),
-            Command::Text(text) => Ok(put(&mut self.text, text, late)?),
-            Command::Memory(tokens, lines) => Ok(put(&mut self.memory, (tokens, lines), late)?),
-            Command::TokenBook(plan) => Ok(put(&mut self.token_book, plan, late)?),
-            Command::LineBook(plan) => Ok(put(&mut self.line_book, plan, late)?),
+            Command::Store(kind, capacity) => Ok(fill(&mut self.store, (kind, capacity), late)?),
+            Command::Text(text) => Ok(fill(&mut self.text, text, late)?),
+            Command::Memory(tokens, lines) => Ok(fill(&mut self.memory, (tokens, lines), late)?),
+            Command::TokenBook(plan) => Ok(fill(&mut self.token_book, plan, late)?),
+            Command::LineBook(plan) => Ok(fill(&mut self.line_book, plan, late)?),
             Command::Ask(request) => Ok(self.requests.push(request)?),
         }
     }

@@ -1,5 +1,6 @@
 // Texts in double quotes, with their escapes.
-ghost use Rattle.std.specs.Prelude.{◌≡◌, ◌≤◌, length, drop, IfOk, Ok, MatchResult};
+ghost use Rattle.std.specs.Prelude.{◌≡◌, ◌≤◌, length, drop, IfOk, Some, Ok, MatchResult};
+ghost use Rattle.script.specs.Quoted.{quoted_text};
 ghost use Rattle.script.specs.Steps.{Stopped};
 ghost use Rattle.script.specs.Texts.{given as given-of, letter as letter-of, moves, text_of};
 
@@ -72,7 +73,8 @@ pub struct Quoted {
 // Reads a text from behind its opening quote.
 pub(crate) fn text_of(heap: Global, bytes: &[u8]) -> Result<Quoted, Stop>
     ensures within { IfOk result (λ q. q.taken ≤ length bytes.now) }
-    ensures read { MatchResult result (λ q. text_of bytes.now ≡ Ok (q.text.items, drop q.taken bytes.now)) (λ s. Stopped (text_of bytes.now) s) }
+    ensures read { IfOk result (λ q. text_of bytes.now ≡ Some (q.text.items, drop q.taken bytes.now)) }
+    ensures quoted { MatchResult result (λ q. quoted_text bytes.now ≡ Ok (q.text.items, drop q.taken bytes.now)) (λ s. Stopped (quoted_text bytes.now) s) }
 {
     let mut text = Vec::new(heap);
     let mut spot = Spot::Plain;

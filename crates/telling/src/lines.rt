@@ -1,9 +1,10 @@
 // What is printed of answers, of refusals and of texts: a line each.
-ghost use Rattle.std.specs.Prelude.{◌≡◌, ℕ, List, [], ◌∷◌, ◌++◌, IfOk, Ok, string_bytes, codes, decimal, OnOk};
+ghost use Rattle.std.specs.Prelude.{◌≡◌, ℕ, List, [], ◌∷◌, ◌++◌, IfOk, Some, Ok, string_bytes, codes, decimal, OnOk};
 ghost use Rattle.scanner.specs.Numbers.{numbers as Numbers-of};
 ghost use Rattle.requests.specs.Plain.{plain};
 ghost use Rattle.telling.specs.Lines.{spaced, line as line_of, line_with, three as three_of, five as five_of, eight as eight_of, refusal_line, answer_line, broken_line};
 ghost use Rattle.script.specs.Texts.{text_of};
+ghost use Rattle.script.specs.Quoted.{quoted_text};
 ghost use Rattle.script.specs.Shown.{escaped};
 ghost use Rattle.telling.specs.Wrongs.{words as words_of};
 
@@ -88,8 +89,9 @@ pub fn refusal_line(heap: Global, refusal: Refusal) -> Result<String, AllocError
 
 // The line of a text. What stands between its quotes is read back as the text.
 pub fn text_line(heap: Global, text: &[u8]) -> Result<String, AllocError>
-    ensures back { (rest : List ℕ) → text_of (escaped text.now ++ (34 ∷ rest)) ≡ Ok (text.now, rest) }
+    ensures back { (rest : List ℕ) → text_of (escaped text.now ++ (34 ∷ rest)) ≡ Some (text.now, rest) }
     ensures line { IfOk result (λ s. string_bytes s ≡ line_with (codes "text") [] text.now) }
+    ensures quoted { (rest : List ℕ) → quoted_text (escaped text.now ++ (34 ∷ rest)) ≡ Ok (text.now, rest) }
 {
     row_with(heap, "text", &[], text)
 }

@@ -9,7 +9,7 @@ returns-then-n-bytes c =
     let whole : n - 0 ≡ n = omega arith in
     let left = ap length (take_rest bytes (n + 1)) ∙ length-drop (n + 1) bytes in
     record {
-      line = ap (λ k. take k bytes) whole ∙ c.until-n.ensures.before;
+      line = ap (λ k. take k bytes) whole ∙ c.until-n.ensures.front;
       behind = take_rest bytes (n + 1) ∙ sym (drop-drop 1 n bytes) ∙ ap (drop 1) c.until-n.ensures.behind;
       shorter = omega (arith, left);
     }
@@ -22,7 +22,7 @@ returns-else-n-bytes c =
     let none = drop_all n bytes c.if-n-bytes.false in
     let left = ap length (take_rest bytes n) ∙ length-drop n bytes in
     record {
-      line = ap (λ k. take k bytes) whole ∙ c.until-n.ensures.before;
+      line = ap (λ k. take k bytes) whole ∙ c.until-n.ensures.front;
       behind = take_rest bytes n ∙ none ∙ sym (ap (drop 1) (sym c.until-n.ensures.behind ∙ none));
       shorter = omega (arith, left);
     }

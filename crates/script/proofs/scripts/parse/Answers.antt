@@ -30,9 +30,6 @@ loop-rest-init c = (
   subst Within (sym c.new-said.ensures) (omega arith),
 )
 
-pub script-requires : goal.script-requires
-script-requires c = c.loop-rest.invariant.2
-
 pub loop-rest-preserved : goal.loop-rest-preserved
 loop-rest-preserved c =
     let rest = c.loop-rest.rest.now in
@@ -52,5 +49,5 @@ returns c =
       back = scripts_read_back;
       script =
           ap written_out (c.loop-rest.invariant.1 ∙ ap (λ xs. told (c.loop-rest.number + 1) (heard c.loop-rest.said) (lines_of xs)) none)
-          ∙ ap Ok (sym c.script.ensures);
+          ∙ ap Ok (sym (c.script.ensures.written c.loop-rest.invariant.2));
     }

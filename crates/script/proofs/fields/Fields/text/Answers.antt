@@ -11,5 +11,5 @@ returns c =
     let read = c.in_ok-text.field-0 in
     ap (λ o. on o quoted_in) c.in_ok-blank.ensures
     ∙ quoted_at _ _ _ c.in-Some-eq34-default.ensures.cases.0 (search rules)
-    ∙ c.in_ok-text.ensures.read
+    ∙ c.in_ok-text.ensures.quoted
     ∙ ap (λ left. Ok (vec_items read.text, left)) (sym (take_rest bytes read.taken))

@@ -8,6 +8,6 @@ returns c =
     let n = c.until-n.result in
     let whole : n - 0 ≡ n = omega arith in
     record {
-      before = ap (λ k. take k rest) whole ∙ c.until-n.ensures.before;
+      before = ap (λ k. take k rest) whole ∙ c.until-n.ensures.front;
       behind = take_rest rest n ∙ c.until-n.ensures.behind;
     }
