@@ -1,4 +1,6 @@
 // Plays a script from standard input: opens a sheet, makes every request of the script in one history, and prints the answers.
+#![tactic(auto)]
+
 mod closings;
 mod plays;
 

@@ -4,10 +4,10 @@ use Rattle.std.specs.Option.{option_map}
 use Rattle.books.specs.Check.{Plan}
 use Rattle.requests.specs.Plain.{asked}
 use Rattle.script.specs.declared.plans.Plan as code
-use Rattle.script.specs.declared.commands.Command as code-command
+use Rattle.script.specs.declared.commands.Command as CodeCommand
 use Rattle.script.specs.declared.commands.Command.TheVariants as says
-use Rattle.script.specs.declared.scripts.Said as code-said
-use Rattle.script.specs.declared.scripts.Script as code-script
+use Rattle.script.specs.declared.scripts.Said as CodeSaid
+use Rattle.script.specs.declared.scripts.Script as CodeScript
 use Rattle.script.specs.declared.wrong.Wrong.{Wrong}
 use Rattle.script.specs.declared.wrong.Stop.{Stop}
 use Rattle.script.specs.declared.wrong.Stop.TheVariants as stop
@@ -33,7 +33,7 @@ planned p =
           };
     }
 
-abbrev pub instruction : code-command.Command → Instruction
+abbrev pub instruction : CodeCommand.Command → Instruction
 instruction (says.Store k n) = store k n
 instruction (says.Text t) = opening_text (vec_items t)
 instruction (says.Memory t l) = memory t l
@@ -41,7 +41,7 @@ instruction (says.TokenBook p) = token_book (planned p)
 instruction (says.LineBook p) = line_book (planned p)
 instruction (says.Ask r) = ask (asked r)
 
-abbrev pub heard : code-said.Said → Heard
+abbrev pub heard : CodeSaid.Said → Heard
 heard s =
     record {
       store = s.store;
@@ -52,7 +52,7 @@ heard s =
       requests = map asked (vec_items s.requests);
     }
 
-abbrev pub written : code-script.Script → Written
+abbrev pub written : CodeScript.Script → Written
 written s =
     record {
       kind = s.kind;

@@ -2,7 +2,7 @@
 ghost use Rattle.std.specs.Prelude.{◌≡◌, ◌≤◌, length, drop, IfOk, Some, Ok, MatchResult};
 ghost use Rattle.script.specs.Quoted.{quoted_text};
 ghost use Rattle.script.specs.Steps.{Stopped};
-ghost use Rattle.script.specs.Texts.{given as given-of, letter as letter-of, moves, text_of};
+ghost use Rattle.script.specs.Texts.{given as given_of, letter as letter_of, moves, text_of};
 
 use crate::numbers::pair;
 use crate::wrong::{Stop, Wrong};
@@ -28,7 +28,7 @@ pub enum Move {
 
 // The byte that a letter behind a backslash stands for.
 fn letter(b: u8) -> Option<u8>
-    ensures { result ≡ letter-of b }
+    ensures { result ≡ letter_of b }
 {
     match b {
         b'n' => Some(b'\n'),
@@ -41,7 +41,7 @@ fn letter(b: u8) -> Option<u8>
 }
 
 fn given(byte: Option<u8>) -> Move
-    ensures { result ≡ given-of byte }
+    ensures { result ≡ given_of byte }
 {
     match byte {
         Some(b) => Move::Give(b),

@@ -1,5 +1,5 @@
 -- What is told of a line that breaks the rules of a script.
-use Rattle.std.specs.Prelude.{ℕ, List, [], codes}
+use Rattle.std.specs.Prelude.{ℕ, List, codes}
 use Rattle.script.specs.declared.wrong.Wrong.{Wrong}
 use Rattle.script.specs.declared.wrong.Wrong.TheVariants.{Command, Missing, Left, Number, TooLarge, OverLimit, NoText, OpenText, Escape, Table, Store, Twice, Late}
 

@@ -1,4 +1,6 @@
 // The lines in which answers, refusals, texts and broken scripts are told.
+#![tactic(auto)]
+
 mod lines;
 mod quotes;
 mod wrongs;

@@ -1,6 +1,6 @@
 // What is printed of answers, of refusals and of texts: a line each.
 ghost use Rattle.std.specs.Prelude.{◌≡◌, ℕ, List, [], ◌∷◌, ◌++◌, IfOk, Some, Ok, string_bytes, codes, decimal, OnOk};
-ghost use Rattle.scanner.specs.Numbers.{numbers as Numbers-of};
+ghost use Rattle.scanner.specs.Numbers.{numbers as numbers_of};
 ghost use Rattle.requests.specs.Plain.{plain};
 ghost use Rattle.telling.specs.Lines.{spaced, line as line_of, line_with, three as three_of, five as five_of, eight as eight_of, refusal_line, answer_line, broken_line};
 ghost use Rattle.script.specs.Texts.{text_of};
@@ -70,7 +70,7 @@ fn three(refusal: Refusal) -> [usize; 3]
 }
 
 fn five<L: Count, B: Count>(entry: &Entry<L, B>) -> [usize; 5]
-    ensures { result ≡ five_of (Numbers-of L.Count.number B.Count.number entry.now) }
+    ensures { result ≡ five_of (numbers_of L.Count.number B.Count.number entry.now) }
 {
     [
         entry.kind as usize,

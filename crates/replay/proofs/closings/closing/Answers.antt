@@ -1,4 +1,4 @@
-use Rattle.std.proofs.Common.{◌≡◌, ◌^◌, ◌<◌, length, ap, arith}
+use Rattle.std.proofs.Common.{◌^◌, ◌<◌, length, ap, arith}
 use Rattle.reading.specs.Reading.{start}
 use Rattle.reading.specs.Laws.{total_length}
 use Rattle.reading.proofs.Lists.{start_within}

@@ -1,4 +1,4 @@
-use Rattle.std.proofs.Common.{◌≡◌, ℕ, ◌/◌, ◌%◌, false, ◌&&◌, leb, List, [], ◌∷◌, ◌++◌, string_bytes, sym, ap, ◌∙◌, inl, inr, arith}
+use Rattle.std.proofs.Common.{◌≡◌, ℕ, ◌/◌, ◌%◌, false, ◌&&◌, leb, List, [], ◌∷◌, ◌++◌, string_bytes, sym, ap, ◌∙◌, inl, inr}
 use Rattle.std.specs.Char.{digit_char}
 use Rattle.std.proofs.lemmas.Bool.{cond-false, and_left, and_right, lt-leb}
 use Rattle.table.proofs.Behind.{behind}

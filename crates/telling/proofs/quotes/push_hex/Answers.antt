@@ -1,5 +1,4 @@
-use Rattle.std.proofs.Common.{◌≡◌, ◌/◌, ◌%◌, [], ◌∷◌, ◌++◌, string_bytes, ap, ◌∙◌, ap₂}
-use Rattle.std.specs.Char.{digit_char}
+use Rattle.std.proofs.Common.{[], ◌∷◌, ◌++◌, string_bytes, ap, ◌∙◌, ap₂}
 use Rattle.table.proofs.Behind.{behind}
 use Rattle.telling.proofs.quotes.push_hex.Goals as goal
 
