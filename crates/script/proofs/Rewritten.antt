@@ -1,6 +1,6 @@
 -- A script that is written out is read as that script.
 use Rattle.std.proofs.Common.{◌≡◌, ℕ, suc, ◌+◌, ◌/◌, ◌%◌, ◌^◌, ◌<◌, Bool, true, not, ◌&&◌, eqb, leb, List, [], ◌∷◌, ◌++◌, map, length, Some, None, Ok, decimal, Option, sym, refl, ap, ◌∙◌, subst, inl, inr, append_assoc, arith}
-use Rattle.std.specs.List.{flat_map, AllByRecursion as All}
+use Rattle.std.specs.List.{flat_map, AllByRecursion}
 use Rattle.std.specs.Char.{digit_char}
 use Rattle.std.proofs.lemmas.Fmt.{decimal_by_steps}
 use Rattle.std.proofs.lemmas.List.{append-nil}
@@ -123,7 +123,7 @@ line_first (b ∷ l) rest h =
     cond-false (eqb b 10) ([] ∷ lines_of (l ++ (10 ∷ rest))) (onto_first b (lines_of (l ++ (10 ∷ rest)))) (not-true (eqb b 10) both.0)
     ∙ ap (onto_first b) (line_first l rest both.1)
 
-lines_back : (cs : List Instruction) → All Sayable cs → lines_of (flat_map (λ c. line_of c ++ (10 ∷ [])) cs) ≡ map line_of cs
+lines_back : (cs : List Instruction) → AllByRecursion Sayable cs → lines_of (flat_map (λ c. line_of c ++ (10 ∷ [])) cs) ≡ map line_of cs
 lines_back [] h = refl
 lines_back (c ∷ cs) h =
     let rest = flat_map (λ c. line_of c ++ (10 ∷ [])) cs in
@@ -150,7 +150,7 @@ command_line h (ask r) s = request_line h r s
 told_on : (n : ℕ) (h k : Heard) (c : Instruction) (ls : List (List ℕ)) → Sayable c → taken_in h c ≡ Ok k → told n h (line_of c ∷ ls) ≡ told (n + 1) k ls
 told_on n h k c ls s e = ap (λ d. at_line n d (λ k. told (n + 1) k ls)) (command_line h c s ∙ e)
 
-told_requests : (n : ℕ) (h : Heard) (rs : List Asked) → All Sayable (map ask rs) → told n h (map line_of (map ask rs)) ≡ Ok (with_requests h (h.requests ++ rs))
+told_requests : (n : ℕ) (h : Heard) (rs : List Asked) → AllByRecursion Sayable (map ask rs) → told n h (map line_of (map ask rs)) ≡ Ok (with_requests h (h.requests ++ rs))
 told_requests n h [] s = ap (λ rs. Ok (with_requests h rs)) (sym (append-nil h.requests))
 told_requests n h (r ∷ rs) s =
     told_on n h (with_requests h (h.requests ++ (r ∷ []))) (ask r) (map line_of (map ask rs)) s.0 refl
@@ -170,7 +170,7 @@ module _ (k : StoreKind) (n : ℕ) (t : List ℕ) (a b : ℕ) where
       ∙ told_on 3 (with_text (with_store silence (Some (k, n))) (Some t)) (set_up k n t a b None None) (memory a b) ls r refl
 
   all_told : (tb lb : Option Plan) (rs : List Asked) →
-      All Sayable (store k n ∷ opening_text t ∷ memory a b ∷ (book_line token_book tb ++ (book_line line_book lb ++ map ask rs))) →
+      AllByRecursion Sayable (store k n ∷ opening_text t ∷ memory a b ∷ (book_line token_book tb ++ (book_line line_book lb ++ map ask rs))) →
       told 1 silence (map line_of (store k n ∷ opening_text t ∷ memory a b ∷ (book_line token_book tb ++ (book_line line_book lb ++ map ask rs))))
       ≡ Ok (with_requests (set_up k n t a b tb lb) rs)
   all_told None None rs s =

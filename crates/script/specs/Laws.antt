@@ -1,7 +1,7 @@
 -- Laws of scripts: a command that is written as a line is read as that command, and a script that is written out is read as that script.
 -- Each field is written before what is left of the line.
 use Rattle.std.specs.Prelude.{◌≡◌, ℕ, ◌/◌, ◌%◌, ◌^◌, ◌<◌, ◌≤◌, List, [], ◌∷◌, ◌++◌, map, length, replicate, Some, None, Ok, codes, decimal, Option, slice_index}
-use Rattle.std.specs.List.{flat_map, AllByRecursion as All}
+use Rattle.std.specs.List.{flat_map, AllByRecursion}
 use Rattle.std.specs.Char.{digit_char}
 use Rattle.books.specs.Check.{Plan}
 use Rattle.requests.specs.Asked.{Asked, correct, token, line, where_is, time, copy, alike}
@@ -100,4 +100,4 @@ abbrev pub script_out : Written → List ℕ
 script_out w = flat_map (λ c. line_of c ++ (10 ∷ [])) (commands_of w)
 
 abbrev pub ScriptsReadBack : Type 0
-ScriptsReadBack = (w : Written) → All Sayable (commands_of w) → meaning (script_out w) ≡ Ok w
+ScriptsReadBack = (w : Written) → AllByRecursion Sayable (commands_of w) → meaning (script_out w) ≡ Ok w
