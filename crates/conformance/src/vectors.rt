@@ -22,7 +22,10 @@ impl PartialEq for Span {
 
     ghost laws = { Prim.search (comparing, rules) };
 
-    fn eq(&self, other: &Span) -> bool {
+    fn eq(&self, other: &Span) -> bool
+        ensures value { result ≡ eq_of_both (on (λ v. v.kind) nat_eq) (on (λ v. v.length) nat_eq) self.now other.now }
+        ensures same { Decides result (self.now ≡ other.now) }
+    {
         self.kind == other.kind && self.length == other.length
     }
 }

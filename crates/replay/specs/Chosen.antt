@@ -21,10 +21,10 @@ chosen_tables (Some p) house = p.tables
 
 -- both books, where neither plan has a fault; the token book's fault comes before the line book's
 abbrev pub BothChosen : Option Plan → Tables → Option Plan → Tables → Result (Book × Book) BookFault → Type 0
-BothChosen t token-house l line-house r =
+BothChosen t token_house l line_house r =
     MatchResult r
     (λ b.
     (first (chosen_fault t) (chosen_fault l) ≡ None)
-    × (tables b.0 ≡ chosen_tables t token-house)
-    × (tables b.1 ≡ chosen_tables l line-house))
+    × (tables b.0 ≡ chosen_tables t token_house)
+    × (tables b.1 ≡ chosen_tables l line_house))
     (λ f. first (chosen_fault t) (chosen_fault l) ≡ Some f)
