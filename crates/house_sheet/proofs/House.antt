@@ -1,5 +1,6 @@
 -- The worked corrections, by computation under the house tables.
-use Rattle.std.proofs.Common.{refl}
+use Rattle.std.proofs.Common.{◌≡◌, refl, sym, subst, subst₂}
+use Rattle.books.specs.Tables.{Tables}
 use Rattle.reading.specs.Reading.{token, read, batch}
 use Rattle.reading.specs.Report.{report}
 use Rattle.house.specs.House.{house_tokens, house_lines}
@@ -21,3 +22,7 @@ worked sheets =
       a_minute_and_more = refl;
       greatest_time = refl;
     }
+
+-- and under whatever tables are those
+pub worked_under : (t l : Tables) → t ≡ house_tokens → l ≡ house_lines → WorkedSheets t → Worked t l
+worked_under t l ts ls sheets = subst₂ Worked (sym ts) (sym ls) (worked (subst WorkedSheets ts sheets))
