@@ -4,6 +4,7 @@
 usage: tools/brute.py < SHEET             print the listing table of the sheet
        tools/brute.py --vectors FILE      compare kinds and lengths with the vectors in FILE
        tools/brute.py --program FILE PROGRAM    compare the whole table of each sheet in FILE with what PROGRAM prints for it
+                                                (the vectors: crates/conformance/stdin; the program: crates/listing/out/listing, once `rt run` has built it)
        tools/brute.py --selftest          compare with the worked sheets of docs/HOUSE.md
 
 It shares nothing with the proved reader, nor with flex, so that the three can be compared.

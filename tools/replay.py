@@ -4,6 +4,7 @@
 usage: tools/replay.py < SCRIPT           print what the replay program prints for the script
        tools/replay.py --selftest         compare with the worked corrections of docs/REPLAY.md
        tools/replay.py --random SEED COUNT PROGRAM    compare with what PROGRAM prints for so many random scripts, broken ones among them
+                                                      (the program: crates/replay/out/replay, once `rt run` has built it)
 
 The house's tokens come from tools/brute.py, which has no table and no automaton; a book of the script is read by walking its tables from every start.
 Nothing is kept from one text to the next, so nothing can be kept wrongly.
