@@ -5,7 +5,7 @@
 mod measures;
 mod rounds;
 
-use measures::measure;
+use measures::Meter;
 use std::env;
 use std::io::Read;
 use text::{FlatStore, GapStore, TextStore};
@@ -13,27 +13,26 @@ use text::{FlatStore, GapStore, TextStore};
 // How many bytes a paste has.
 const PASTE: usize = 1000;
 
-// The number of rounds that the first argument names, or 0 where there is none: then nothing is timed.
-fn rounds_asked(rt: &HostRuntime) -> anyhow::Result<usize> {
-    let mut args = env::args(rt)?.skip(1);
-    match args.next() {
-        Some(word) => Ok(word.as_str().parse::<usize>()?),
-        None => Ok(0),
-    }
-}
-
-fn run(rt: &HostRuntime) -> anyhow::Result<()> {
-    let heap = rt.alloc();
-    let rounds = rounds_asked(rt)?;
-    let mut sheet = Vec::new(heap);
-    rt.stdin().take(65536).read_to_end(&mut sheet)?;
-    let room = sheet.len().saturating_add(PASTE).min(65535);
-    let flat = FlatStore::new(vec![in heap; 0; room]?);
-    measure(rt, "flat", flat, sheet.as_slice(), rounds)?;
-    let gap = GapStore::new(vec![in heap; 0; room]?);
-    measure(rt, "gap", gap, sheet.as_slice(), rounds)
+// The number of rounds that the first argument names, where there is one; 0 is none.
+fn rounds_asked(rt: &HostRuntime) -> anyhow::Result<Option<usize>> {
+    let rounds = env::args(rt)?
+        .nth(1)
+        .map(|word| word.as_str().parse::<usize>())
+        .transpose()?;
+    Ok(rounds.filter(|rounds| *rounds > 0))
 }
 
 fn main(rt: HostRuntime) -> anyhow::Result<()> {
-    run(&rt)
+    let heap = rt.alloc();
+    let rounds = rounds_asked(&rt)?;
+    let mut sheet = Vec::new(heap);
+    rt.stdin().take(65536).read_to_end(&mut sheet)?;
+    let room = sheet.len().saturating_add(PASTE).min(65535);
+    let meter = |name| Meter {
+        rt: &rt,
+        name,
+        rounds,
+    };
+    meter("flat").measure(FlatStore::new(vec![in heap; 0; room]?), sheet.as_slice())?;
+    meter("gap").measure(GapStore::new(vec![in heap; 0; room]?), sheet.as_slice())
 }

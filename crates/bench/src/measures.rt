@@ -1,39 +1,23 @@
 // The measures of one store.
 use crate::PASTE;
-use crate::rounds::{correct_again, in_and_out, open, read_again, read_tokens_again};
-use anyhow::anyhow;
-use counts::{ByteCount, LineCount, TokenCount};
+use crate::rounds::{in_and_out, open, read_tokens};
+use anyhow::bail;
+use counts::{ByteCount, Count};
 use house::{line_book, token_book};
 use requests::Reports;
-use scanner::{Entry, Line, Token};
+use scanner::{Line, Token};
 use sheet::{Parts, Sheet};
 use std::alloc::{AllocError, Global};
 use std::io;
 use std::time::Instant;
 use text::TextStore;
 
-const NO_TOKEN: Token = Entry {
-    length: ByteCount(0),
-    reading: ByteCount(0),
-    lookback: TokenCount(0),
-    kind: 0,
-    mode: 0,
-};
-
-const NO_LINE: Line = Entry {
-    length: TokenCount(0),
-    reading: TokenCount(0),
-    lookback: LineCount(0),
-    kind: 0,
-    mode: 0,
-};
-
 // A store under the house books, with memory for both lists.
 fn parts_over<S: TextStore + Drop>(heap: Global, store: S) -> Result<Parts<S>, AllocError> {
-    let records = store.capacity().0.saturating_add(1);
+    let records = store.capacity().get().saturating_add(1);
     Ok(Parts {
-        tokens: vec![in heap; NO_TOKEN; records]?,
-        lines: vec![in heap; NO_LINE; records]?,
+        tokens: vec![in heap; Token::default(); records]?,
+        lines: vec![in heap; Line::default(); records]?,
         store,
         token_book: token_book(),
         line_book: line_book(),
@@ -43,111 +27,118 @@ fn parts_over<S: TextStore + Drop>(heap: Global, store: S) -> Result<Parts<S>, A
 // A correction that is measured: what is put in, and where.
 #[derive(Drop)]
 struct Case<'a> {
-    name: &'static str,
+    name: &'a str,
     place: ByteCount,
     bytes: &'a [u8],
 }
 
-fn print_report(rt: &HostRuntime, store: &str, name: &str, reports: Reports) -> io::Result<()> {
-    let Reports { tokens, lines } = reports;
-    let (first, out, added, tail) = (tokens.first.0, tokens.out.0, tokens.added.0, tokens.tail.0);
-    print!(rt; "{store} {name} {first} {out} {added} {tail}")?;
-    let (first, out, added, tail) = (lines.first.0, lines.out.0, lines.added.0, lines.tail.0);
-    println!(rt; " {first} {out} {added} {tail}")
+// The corrections of a text with this many bytes.
+fn cases(bytes: usize, paste: &[u8]) -> [Case<'_>; 4] {
+    let case = |name, place, bytes| Case {
+        name,
+        place: Count::of(place),
+        bytes,
+    };
+    [
+        case("front", 0, b"a"),
+        case("middle", bytes / 2, b"a"),
+        case("end", bytes, b"a"),
+        case("paste", bytes / 2, paste),
+    ]
 }
 
-// How long that many rounds took, where there was any.
-fn print_time(
-    rt: &HostRuntime,
-    store: &str,
-    name: &str,
-    rounds: usize,
-    began: Instant,
-) -> io::Result<()> {
-    let nanoseconds = began.elapsed(rt)?.as_nanos();
-    if rounds > 0 {
-        println!(rt; "time {store} {name} {rounds} {nanoseconds}")?;
+// What measures one store: it prints the store's name on each line, and times as many rounds as are asked for, if any are.
+#[derive(Clone, Copy)]
+pub(crate) struct Meter<'a> {
+    pub(crate) rt: &'a HostRuntime,
+    pub(crate) name: &'a str,
+    pub(crate) rounds: Option<usize>,
+}
+
+impl Meter<'_> {
+    fn print_report(&self, case: &str, reports: Reports) -> io::Result<()> {
+        let name = self.name;
+        let Reports { tokens, lines } = reports;
+        println!(self.rt; "{name} {case} {tokens} {lines}")
     }
-    Ok(())
-}
 
-fn measure_case<S: TextStore>(
-    rt: &HostRuntime,
-    store: &str,
-    sheet: &mut Sheet<S>,
-    case: &Case,
-    rounds: usize,
-) -> anyhow::Result<()> {
-    let reports = in_and_out(sheet, case.place, case.bytes)?;
-    print_report(rt, store, case.name, reports)?;
-    let began = Instant::now(rt)?;
-    correct_again(sheet, case.place, case.bytes, rounds)?;
-    print_time(rt, store, case.name, rounds, began)?;
-    Ok(())
-}
-
-// Times fresh readings, of tokens and lines and of the tokens alone.
-fn measure_readings<S: TextStore + Drop>(
-    rt: &HostRuntime,
-    store: &str,
-    sheet: Sheet<S>,
-    rounds: usize,
-) -> anyhow::Result<Sheet<S>> {
-    let began = Instant::now(rt)?;
-    let sheet = read_again(sheet, rounds)?;
-    print_time(rt, store, "read", rounds, began)?;
-    let began = Instant::now(rt)?;
-    let sheet = read_tokens_again(sheet, rounds)?;
-    print_time(rt, store, "tokens", rounds, began)?;
-    Ok(sheet)
-}
-
-// Measures the reader on a text, over a store that is empty yet.
-pub(crate) fn measure<S: TextStore + Drop>(
-    rt: &HostRuntime,
-    name: &str,
-    store: S,
-    text: &[u8],
-    rounds: usize,
-) -> anyhow::Result<()> {
-    let heap = rt.alloc();
-    let mut store = store;
-    if store.replace(ByteCount(0), ByteCount(0), text).is_err() {
-        return Err(anyhow!("the sheet is too long"));
+    // Makes the rounds, each on what the round before it left, and prints how long they took.
+    fn time<T: Drop, F: Fn(T) -> anyhow::Result<T>>(
+        &self,
+        what: &str,
+        mut on: T,
+        round: F,
+    ) -> anyhow::Result<T>
+        requires { F.IsAlwaysCallable round }
+    {
+        let Some(rounds) = self.rounds else {
+            return Ok(on);
+        };
+        let began = Instant::now(self.rt)?;
+        for _ in 0..rounds {
+            on = round(on)?;
+        }
+        let nanoseconds = began.elapsed(self.rt)?.as_nanos();
+        let name = self.name;
+        println!(self.rt; "time {name} {what} {rounds} {nanoseconds}")?;
+        Ok(on)
     }
-    let sheet = open(parts_over(heap, store)?)?;
-    let (bytes, tokens, lines) = (
-        text.len(),
-        sheet.token_list().len(),
-        sheet.line_list().len(),
-    );
-    println!(rt; "{name} {bytes} bytes {tokens} tokens {lines} lines")?;
-    let mut sheet = measure_readings(rt, name, sheet, rounds)?;
-    let paste = vec![in heap; b'a'; PASTE]?;
-    let cases = [
-        Case {
-            name: "front",
-            place: ByteCount(0),
-            bytes: b"a",
-        },
-        Case {
-            name: "middle",
-            place: ByteCount(bytes / 2),
-            bytes: b"a",
-        },
-        Case {
-            name: "end",
-            place: ByteCount(bytes),
-            bytes: b"a",
-        },
-        Case {
-            name: "paste",
-            place: ByteCount(bytes / 2),
-            bytes: paste.as_slice(),
-        },
-    ];
-    for case in &cases {
-        measure_case(rt, name, &mut sheet, case, rounds)?;
+
+    fn measure_case<S: TextStore>(&self, sheet: &mut Sheet<S>, case: &Case) -> anyhow::Result<()> {
+        let reports = in_and_out(sheet, case.place, case.bytes)?;
+        self.print_report(case.name, reports)?;
+        self.time(case.name, sheet, |sheet| {
+            in_and_out(sheet, case.place, case.bytes)?;
+            Ok(sheet)
+        })?;
+        Ok(())
     }
-    Ok(())
+
+    // Times fresh readings, of tokens and lines and of the tokens alone.
+    fn measure_readings<S: TextStore + Drop>(&self, sheet: Sheet<S>) -> anyhow::Result<Sheet<S>> {
+        let sheet = self.time("read", sheet, |sheet| open(sheet.into_parts()))?;
+        let Parts {
+            store,
+            token_book,
+            line_book,
+            tokens,
+            lines,
+        } = sheet.into_parts();
+        let tokens = self.time("tokens", tokens, |tokens| {
+            read_tokens(&token_book, &store, tokens)
+        })?;
+        open(Parts {
+            store,
+            token_book,
+            line_book,
+            tokens,
+            lines,
+        })
+    }
+
+    // Measures the reader on a text, over a store that is empty yet.
+    pub(crate) fn measure<S: TextStore + Drop>(
+        &self,
+        mut store: S,
+        text: &[u8],
+    ) -> anyhow::Result<()> {
+        let heap = self.rt.alloc();
+        if store.replace(Count::of(0), Count::of(0), text).is_err() {
+            bail!("the sheet is too long");
+        }
+        let sheet = open(parts_over(heap, store)?)?;
+        let name = self.name;
+        let bytes = text.len();
+        println!(self.rt;
+            "{name} {bytes} bytes {} tokens {} lines",
+            sheet.token_list().len(),
+            sheet.line_list().len(),
+        )?;
+        let mut sheet = self.measure_readings(sheet)?;
+        let paste = vec![in heap; b'a'; PASTE]?;
+        for case in &cases(bytes, paste.as_slice()) {
+            self.measure_case(&mut sheet, case)?;
+        }
+        Ok(())
+    }
 }

@@ -1,54 +1,30 @@
-// What is done again and again while the clock runs.
-use anyhow::anyhow;
-use counts::ByteCount;
+// What a measure does, each time that it is done.
+use anyhow::bail;
+use books::Book;
+use counts::{ByteCount, Count};
 use requests::Reports;
-use scanner::{StoreBytes, read_all};
+use scanner::{StoreBytes, Token, read_all};
 use sheet::{Parts, Sheet};
 use text::TextStore;
 
-// Reads tokens and lines afresh, this many times.
-pub(crate) fn read_again<S: TextStore + Drop>(
-    sheet: Sheet<S>,
-    rounds: usize,
-) -> anyhow::Result<Sheet<S>> {
-    let mut sheet = sheet;
-    for _ in 0..rounds {
-        sheet = open(sheet.into_parts())?;
-    }
+// Reads tokens and lines afresh.
+pub(crate) fn open<S: TextStore + Drop>(parts: Parts<S>) -> anyhow::Result<Sheet<S>> {
+    let Ok(sheet) = Sheet::open(parts) else {
+        bail!("no sheet can be opened on this text");
+    };
     Ok(sheet)
 }
 
-// Reads the tokens alone afresh, this many times.
-pub(crate) fn read_tokens_again<S: TextStore + Drop>(
-    sheet: Sheet<S>,
-    rounds: usize,
-) -> anyhow::Result<Sheet<S>> {
-    let Parts {
-        store,
-        token_book,
-        line_book,
-        mut tokens,
-        lines,
-    } = sheet.into_parts();
-    for _ in 0..rounds {
-        if read_all(&token_book, &StoreBytes(&store), tokens.as_mut_slice()).is_none() {
-            return Err(anyhow!("there is no room for the tokens"));
-        }
+// Reads the tokens alone afresh.
+pub(crate) fn read_tokens<S: TextStore>(
+    book: &Book,
+    store: &S,
+    mut tokens: Vec<Token>,
+) -> anyhow::Result<Vec<Token>> {
+    if read_all(book, &StoreBytes(store), tokens.as_mut_slice()).is_none() {
+        bail!("there is no room for the tokens");
     }
-    open(Parts {
-        store,
-        token_book,
-        line_book,
-        tokens,
-        lines,
-    })
-}
-
-pub(crate) fn open<S: TextStore + Drop>(parts: Parts<S>) -> anyhow::Result<Sheet<S>> {
-    match Sheet::open(parts) {
-        Ok(sheet) => Ok(sheet),
-        Err(_) => Err(anyhow!("no sheet can be opened on this text")),
-    }
+    Ok(tokens)
 }
 
 fn correct<S: TextStore>(
@@ -57,10 +33,10 @@ fn correct<S: TextStore>(
     cut: usize,
     bytes: &[u8],
 ) -> anyhow::Result<Reports> {
-    match sheet.correct(place, ByteCount(cut), bytes) {
-        Ok(reports) => Ok(reports),
-        Err(_) => Err(anyhow!("there is no room for a correction")),
-    }
+    let Ok(reports) = sheet.correct(place, Count::of(cut), bytes) else {
+        bail!("there is no room for a correction");
+    };
+    Ok(reports)
 }
 
 // Puts the bytes in at the place, and takes them out again. Answers what putting them in reports.
@@ -72,17 +48,4 @@ pub(crate) fn in_and_out<S: TextStore>(
     let reports = correct(sheet, place, 0, bytes)?;
     correct(sheet, place, bytes.len(), b"")?;
     Ok(reports)
-}
-
-// The same, this many times.
-pub(crate) fn correct_again<S: TextStore>(
-    sheet: &mut Sheet<S>,
-    place: ByteCount,
-    bytes: &[u8],
-    rounds: usize,
-) -> anyhow::Result<()> {
-    for _ in 0..rounds {
-        in_and_out(sheet, place, bytes)?;
-    }
-    Ok(())
 }

@@ -1,45 +1,47 @@
 -- The first question that gets a no decides the fault.
-use Rattle.std.proofs.Common.{◌≡◌, IsErrAnd, Some, None, Option, Result, ap, ◌∙◌, MatchResult}
+use Rattle.std.proofs.Common.{◌≡◌, ℕ, List, [], ◌∷◌, IsErrAnd, Ok, Err, Some, None, Option, Result, refl, sym, ap, ◌∙◌, MatchOption, MatchResult}
+use Rattle.std.specs.Borrow.{Bor}
+use Rattle.std.specs.Option.{option_map}
 use Rattle.std.proofs.lemmas.Result.{err_from_is_err_and}
+use Rattle.books.specs.declared.draft.Draft.{Draft}
+use Rattle.books.specs.declared.draft.measured.Measured.{Measured}
 use Rattle.books.specs.declared.fault.BookFault.{BookFault}
-use Rattle.books.specs.Check.{Plan, first, count_fault, length_fault, class_fault, step_fault, accept_fault, rule_fault, start_fault, fault}
+use Rattle.books.specs.Check.{Plan, first, first_of, count_fault, length_fault, class_fault, step_fault, accept_fault, rule_fault, start_fault, fault}
+use Rattle.books.specs.Plans.{plan}
+use Rattle.books.proofs.Questions.{none_from_test}
 
-here : {A : Type 0} (x y : Option A) (a : A) → x ≡ Some a → first x y ≡ Some a
-here x y a e = ap (λ (z : Option _). first z y) e
+module _ (make : ℕ → BookFault) (x no : Option ℕ) (o rest : Option BookFault) where
+  -- The fault is that of a question or else one of the rest. At the exit of a `?` on the question's answer it is the question's,
+  pub exits : {T : Type 0} (P : T → Type 0) (r : Result T BookFault) (f : BookFault) → o ≡ first (option_map make x) rest → no ≡ x → MatchOption no (◌≡◌ {A = Result (Unit {0}) BookFault} (Err f) (Ok tt)) (λ place. IsErrAnd {T = Unit {0}} (Err f) (λ g. g ≡ make place)) → IsErrAnd r (λ g. g ≡ f) → MatchResult r P (λ g. o ≡ Some g)
+  exits P r f e is said by = exit no is said
+    where
+      exit : (no : Option ℕ) → no ≡ x → MatchOption no (◌≡◌ {A = Result (Unit {0}) BookFault} (Err f) (Ok tt)) (λ place. IsErrAnd {T = Unit {0}} (Err f) (λ g. g ≡ make place)) → MatchResult r P (λ g. o ≡ Some g)
+      exit None is said = absurd (cc)
+      exit (Some place) is said =
+          let at = err_from_is_err_and r by in
+          let named : option_map make x ≡ Some f = ap (option_map make) (sym is) ∙ ap Some (sym said) in
+          rw (at.1, at.2) (e ∙ ap (λ (z : Option BookFault). first z rest) named)
 
-later : {A : Type 0} (x y : Option A) → x ≡ None → first x y ≡ y
-later x y e = ap (λ (z : Option _). first z y) e
+  -- and behind it the rest's
+  pub passes : o ≡ first (option_map make x) rest → no ≡ x → MatchOption no (◌≡◌ {A = Result (Unit {0}) BookFault} (Ok tt) (Ok tt)) (λ place. IsErrAnd {T = Unit {0}} {E = BookFault} (Ok tt) (λ g. g ≡ make place)) → o ≡ rest
+  passes e is said = pass no is said
+    where
+      pass : (no : Option ℕ) → no ≡ x → MatchOption no (◌≡◌ {A = Result (Unit {0}) BookFault} (Ok tt) (Ok tt)) (λ place. IsErrAnd {T = Unit {0}} {E = BookFault} (Ok tt) (λ g. g ≡ make place)) → o ≡ rest
+      pass None is said = e ∙ ap (λ (z : Option ℕ). first (option_map make z) rest) (sym is)
+      pass (Some place) is said = absurd said
 
-pub count_decides : (p : Plan) (f : BookFault) → count_fault p ≡ Some f → fault p ≡ Some f
+-- the fault of the questions that are left for a measured draft
+abbrev pub left : Plan → Option BookFault
+left p =
+    first_of (class_fault p ∷ step_fault p ∷ accept_fault p ∷ rule_fault p ∷ start_fault p ∷ [])
+
+pub counts_first : (p : Plan) → fault p ≡ first (count_fault p) (first (length_fault p) (left p))
 unfolding fault
-count_decides p f e = here _ _ f e
+counts_first p = refl
 
-pub length_decides : (p : Plan) (f : BookFault) → count_fault p ≡ None → length_fault p ≡ Some f → fault p ≡ Some f
-unfolding fault
-length_decides p f n e = later _ _ n ∙ here _ _ f e
-
-pub class_decides : (p : Plan) (f : BookFault) → count_fault p ≡ None → length_fault p ≡ None → class_fault p ≡ Some f → fault p ≡ Some f
-unfolding fault
-class_decides p f n l e = later _ _ n ∙ later _ _ l ∙ here _ _ f e
-
-pub step_decides : (p : Plan) (f : BookFault) → count_fault p ≡ None → length_fault p ≡ None → class_fault p ≡ None → step_fault p ≡ Some f → fault p ≡ Some f
-unfolding fault
-step_decides p f n l c e = later _ _ n ∙ later _ _ l ∙ later _ _ c ∙ here _ _ f e
-
-pub accept_decides : (p : Plan) (f : BookFault) → count_fault p ≡ None → length_fault p ≡ None → class_fault p ≡ None → step_fault p ≡ None → accept_fault p ≡ Some f → fault p ≡ Some f
-unfolding fault
-accept_decides p f n l c s e = later _ _ n ∙ later _ _ l ∙ later _ _ c ∙ later _ _ s ∙ here _ _ f e
-
-pub rule_decides : (p : Plan) (f : BookFault) → count_fault p ≡ None → length_fault p ≡ None → class_fault p ≡ None → step_fault p ≡ None → accept_fault p ≡ None → rule_fault p ≡ Some f → fault p ≡ Some f
-unfolding fault
-rule_decides p f n l c s a e = later _ _ n ∙ later _ _ l ∙ later _ _ c ∙ later _ _ s ∙ later _ _ a ∙ here _ _ f e
-
--- with six yeses the last question decides, whatever its answer
-pub start_decides : (p : Plan) (o : Option BookFault) → count_fault p ≡ None → length_fault p ≡ None → class_fault p ≡ None → step_fault p ≡ None → accept_fault p ≡ None → rule_fault p ≡ None → start_fault p ≡ o → fault p ≡ o
-unfolding fault
-start_decides p (Some f) n l c s a r e = later _ _ n ∙ later _ _ l ∙ later _ _ c ∙ later _ _ s ∙ later _ _ a ∙ later _ _ r ∙ here _ _ f e
-start_decides p None n l c s a r e = later _ _ n ∙ later _ _ l ∙ later _ _ c ∙ later _ _ s ∙ later _ _ a ∙ later _ _ r ∙ later _ _ e
-
--- what the exit of a `?` answers
-pub exits : {T E : Type 0} (o : Option E) (P : T → Type 0) (r : Result T E) (f : E) → IsErrAnd r (λ g. g ≡ f) → o ≡ Some f → MatchResult r P (λ g. o ≡ Some g)
-exits o P r f by e = let at = err_from_is_err_and r by in rw (at.1, at.2) e
+pub classes_first : (d : Draft (Bor (List ℕ))) (m : Measured) → m.draft ≡ d → fault (plan d) ≡ left (plan m.draft)
+classes_first d m same =
+    let p = plan m.draft in
+    ap (λ (d : Draft (Bor (List ℕ))). fault (plan d)) (sym same) ∙ counts_first p
+    ∙ ap (λ (z : Option BookFault). first z (first (length_fault p) (left p))) (none_from_test _ m.counted)
+    ∙ ap (λ (z : Option BookFault). first z (left p)) (none_from_test _ m.long)

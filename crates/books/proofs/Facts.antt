@@ -1,11 +1,13 @@
 -- What a draft without a fault keeps, and so a book.
-use Rattle.std.proofs.Common.{◌≡◌, ℕ, ◌+◌, ◌*◌, ◌<◌, ◌≤◌, true, leb, length, get_or, None, sym, subst, inl, inr, mul_comm, arith, lit<}
+use Rattle.std.proofs.Common.{◌≡◌, ℕ, ◌+◌, ◌*◌, ◌<◌, ◌≤◌, true, leb, length, get_or, Some, None, IfSome, sym, subst, inl, inr, mul_comm, arith, lit<}
 use Rattle.std.proofs.lemmas.Nat.{mul-add-lt, mul-le}
+use Rattle.std.specs.List.{range_with_len}
 use Rattle.std.proofs.lemmas.List.{get_or_past}
-use Rattle.std.proofs.lemmas.Bool.{cases_lt, ltb-true, leb-true, eqb-true, and_parts, not-true, or_cases}
+use Rattle.std.proofs.lemmas.List.FromFn.{length-range_with_len, get_or-range_with_len}
+use Rattle.std.proofs.lemmas.Bool.{cases_lt, cases_eq, ltb-true, leb-true, eqb-true, eq-eqb, ne_eqb, and_parts, not-true, or_cases}
 use Rattle.books.specs.declared.book.Book.{Book}
 use Rattle.books.specs.declared.fault.BookFault.TheVariants.{Count, Length, Class, Step, Accept, Rule, Start}
-use Rattle.books.specs.Tables.{Tables, class, step, next_mode, start_state}
+use Rattle.books.specs.Tables.{class, step, present, next_mode, start_state}
 use Rattle.books.specs.Sound.{Sound, below_or_none}
 use Rattle.books.specs.Check.{Plan, counted, counts_right, lengths_right, class_right, step_right, accept_right, rule_right, start_right, count_fault, length_fault, class_fault, step_fault, accept_fault, rule_fault, start_fault, fault}
 use Rattle.books.specs.Plans.{held}
@@ -58,7 +60,7 @@ in_bounds n most e = let p = and_parts (leb 1 n) (leb n most) e in (leb-true 1 n
 
 pub counts_known : (p : Plan) → count_fault p ≡ None → Counted p
 counts_known p e =
-    let yes : (k : ℕ) → k < 4 → get_or (counts_right p) k true ≡ true = each_yes (λ i. get_or (counts_right p) i true) 4 (mapped_none Count _ e) in
+    let yes : (k : ℕ) → k < 4 → get_or (counts_right p) k true ≡ true = each_yes (λ yes. yes) (counts_right p) true (mapped_none Count _ e) in
     let s = in_bounds p.states 128 (yes 0 (lit< tt)) in
     let c = in_bounds p.tables.width 32 (yes 1 (lit< tt)) in
     let m = in_bounds p.modes 16 (yes 2 (lit< tt)) in
@@ -84,7 +86,7 @@ pub record Measured (p : Plan) : Type 0 where
 
 pub lengths_known : (p : Plan) → length_fault p ≡ None → Measured p
 lengths_known p e =
-    let yes : (k : ℕ) → k < 5 → get_or (lengths_right p) k true ≡ true = each_yes (λ i. get_or (lengths_right p) i true) 5 (mapped_none Length _ e) in
+    let yes : (k : ℕ) → k < 5 → get_or (lengths_right p) k true ≡ true = each_yes (λ yes. yes) (lengths_right p) true (mapped_none Length _ e) in
     record {
       classes = eqb-true _ _ (yes 0 (lit< tt));
       steps = eqb-true _ _ (yes 1 (lit< tt));
@@ -92,6 +94,12 @@ lengths_known p e =
       rules = eqb-true _ _ (yes 3 (lit< tt));
       starts = eqb-true _ _ (yes 4 (lit< tt));
     }
+
+rule_yes : (p : Plan) → rule_fault p ≡ None → (r : ℕ) → r < p.rules → rule_right p r ≡ true
+rule_yes p e r h =
+    let at : get_or (range_with_len 0 p.rules) r 0 ≡ r = omega (arith, get_or-range_with_len 0 p.rules r 0 h) in
+    subst (λ (k : ℕ). rule_right p k ≡ true) at
+    (each_yes (rule_right p) (range_with_len 0 p.rules) 0 (mapped_none Rule _ e) r (omega (arith, length-range_with_len 0 p.rules)))
 
 pub sound_from_answers : (p : Plan) → Answered p → Sound p.tables
 sound_from_answers p a =
@@ -115,50 +123,60 @@ sound_from_answers p a =
       each_code = cs;
       each_step = at-state (λ s. length p.tables.steps ≡ s * p.tables.width) l.steps;
       each_rule = l.rules;
-      class_below = λ x h. ltb-true _ _ (each_yes (class_right p) (length p.tables.classes) (mapped_none Class _ a.classes) x (omega arith));
-      step_below = λ i h. at-state (λ s. below_or_none s (get_or p.tables.steps i 255) ≡ true) (each_yes (step_right p) _ (mapped_none Step _ a.steps) i h);
-      accept_below = λ s h. each_yes (accept_right p) _ (mapped_none Accept _ a.accepts) s h;
-      rule_kind = λ r h. leb-true 2 _ (and_parts _ _ (each_yes (rule_right p) _ (mapped_none Rule _ a.rules) r h)).0;
-      rule_mode = λ r h. at-mode (λ m. next_mode p.tables r < m) (ltb-true _ _ (and_parts _ _ (each_yes (rule_right p) _ (mapped_none Rule _ a.rules) r h)).1);
-      start_below = λ m h. at-state (λ s. start_state p.tables m < s) (ltb-true _ _ (and_parts _ _ (each_yes (start_right p) _ (mapped_none Start _ a.starts) m h)).0);
-      start_open = λ m h. not-true _ (and_parts _ _ (each_yes (start_right p) _ (mapped_none Start _ a.starts) m h)).1;
+      class_below = λ x h. ltb-true _ _ (each_yes (class_right p) p.tables.classes 0 (mapped_none Class _ a.classes) x (omega arith));
+      step_below = λ i h. at-state (λ s. below_or_none s (get_or p.tables.steps i 255) ≡ true) (each_yes (step_right p) p.tables.steps 255 (mapped_none Step _ a.steps) i h);
+      accept_below = λ s h. each_yes (accept_right p) p.tables.accepts 255 (mapped_none Accept _ a.accepts) s h;
+      rule_kind = λ r h. leb-true 2 _ (and_parts _ _ (rule_yes p a.rules r h)).0;
+      rule_mode = λ r h. at-mode (λ m. next_mode p.tables r < m) (ltb-true _ _ (and_parts _ _ (rule_yes p a.rules r h)).1);
+      start_below = λ m h. at-state (λ s. start_state p.tables m < s) (ltb-true _ _ (and_parts _ _ (each_yes (start_right p) p.tables.starts 0 (mapped_none Start _ a.starts) m h)).0);
+      start_open = λ m h. not-true _ (and_parts _ _ (each_yes (start_right p) p.tables.starts 0 (mapped_none Start _ a.starts) m h)).1;
     }
 
-pub book_answered : (b : Book) → Answered (held b.copies)
-book_answered b = answered (held b.copies) (none_from_test (fault (held b.copies)) b.sound)
-
 pub book_sound : (b : Book) → Sound (tables b)
-book_sound b = sound_from_answers (held b.copies) (book_answered b)
+book_sound b = sound_from_answers (held b.copies) (answered (held b.copies) (none_from_test (fault (held b.copies)) b.sound))
 
-pub book_counted : (b : Book) → Counted (held b.copies)
-book_counted b = counts_known (held b.copies) (book_answered b).counts
+-- where the step of a state at a code stands
+pub step_place : (b : Book) (s x : ℕ) → s < length (tables b).accepts → x < 256 → (s * (tables b).width + class (tables b) x < length (tables b).steps) × (length (tables b).steps ≤ 4096)
+step_place b s x in-states in-codes =
+    let t = tables b in
+    let sound = book_sound b in (
+      omega (arith, mul-add-lt s t.width (class t x) (length t.accepts) in-states (sound.class_below x in-codes), mul_comm t.width (length t.accepts), sound.each_step),
+      omega (arith, mul-le (length t.accepts) t.width 128 32 sound.few_states sound.few_classes, sound.each_step),
+    )
 
-pub book_measured : (b : Book) → Measured (held b.copies)
-book_measured b = lengths_known (held b.copies) (book_answered b).lengths
-
--- the entry of a state and a class in the step table
-pub step_place : (t : Tables) → Sound t → (s k : ℕ) → s < length t.accepts → k < t.width → s * t.width + k < length t.steps
-step_place t sound s k in-states in-width =
-    omega (arith, mul-add-lt s t.width k (length t.accepts) in-states in-width, mul_comm t.width (length t.accepts), sound.each_step)
-
--- the entry of a state at a code
-pub code_place : (t : Tables) → Sound t → (s x : ℕ) → s < length t.accepts → x < 256 → s * t.width + class t x < length t.steps
-code_place t sound s x in-states in-codes = step_place t sound s (class t x) in-states (sound.class_below x in-codes)
-
-pub steps_low : (t : Tables) → Sound t → length t.steps ≤ 4096
-steps_low t sound =
-    omega (arith, mul-le (length t.accepts) t.width 128 32 sound.few_states sound.few_classes, sound.each_step)
-
-pub step_within : (t : Tables) → Sound t → (s x : ℕ) → s < length t.accepts → x < 256 → (step t s x ≡ 255 → ⊥) → step t s x < length t.accepts
-step_within t sound s x in-states in-codes some =
-    elim (or_cases _ _ (sound.step_below (s * t.width + class t x) (code_place t sound s x in-states in-codes))) [
-      | inl below ↦ ltb-true _ _ below
-      | inr none ↦ absurd (some (eqb-true _ _ none))
+-- what a table's byte is where it names something, and where it names nothing
+pub present_some : (x y : ℕ) → present x ≡ Some y → (x ≡ y) × (x ≡ 255 → ⊥)
+present_some x y e =
+    elim (cases_eq x 255) [
+      | inl none ↦ let nothing : None ≡ Some y = rw (eq-eqb x 255 none) at e in (cc, cc)
+      | inr some ↦ let it : Some x ≡ Some y = rw (ne_eqb x 255 some) at e in (cc, some)
     ]
 
-pub start_within : (t : Tables) → Sound t → (m : ℕ) → start_state t m < length t.accepts
-start_within t sound m =
-    elim (cases_lt m (length t.starts)) [
-      | inl within ↦ sound.start_below m within
-      | inr past ↦ rw (get_or_past t.starts m 0 past) sound.some_state
+pub present_none : (x : ℕ) → present x ≡ None → x ≡ 255
+present_none x e =
+    elim (cases_eq x 255) [
+      | inl none ↦ none
+      | inr some ↦ let it : Some x ≡ None = rw (ne_eqb x 255 some) at e in cc
+    ]
+
+-- a byte that names something below n or nothing
+below_present : (n x : ℕ) → below_or_none n x ≡ true → IfSome (present x) (λ y. y < n)
+below_present n x e =
+    elim (cases_eq x 255) [
+      | inl none ↦ rw (eq-eqb _ _ none) tt
+      | inr some ↦ rw (ne_eqb _ _ some) (elim (or_cases _ _ e) [
+        | inl below ↦ ltb-true _ _ below
+        | inr none ↦ absurd (some (eqb-true _ _ none))
+      ])
+    ]
+
+pub step_within : (b : Book) (s x : ℕ) → s < length (tables b).accepts → x < 256 → IfSome (present (step (tables b) s x)) (λ y. y < length (tables b).accepts)
+step_within b s x in-states in-codes =
+    below_present _ _ ((book_sound b).step_below (s * (tables b).width + class (tables b) x) (step_place b s x in-states in-codes).0)
+
+pub start_within : (b : Book) (m : ℕ) → start_state (tables b) m < length (tables b).accepts
+start_within b m =
+    elim (cases_lt m (length (tables b).starts)) [
+      | inl within ↦ (book_sound b).start_below m within
+      | inr past ↦ rw (get_or_past (tables b).starts m 0 past) (book_sound b).some_state
     ]

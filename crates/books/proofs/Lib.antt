@@ -1,5 +1,6 @@
 pub mod Questions
 pub mod Facts
 pub mod Rows
-pub mod Fronts
 pub mod Decides
+pub mod Made
+pub mod Pairs

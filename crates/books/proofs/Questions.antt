@@ -1,45 +1,30 @@
 -- What an answer to a question says of each detail.
-use Rattle.std.proofs.Common.{◌≡◌, ℕ, zero, suc, ◌+◌, ◌<◌, Bool, true, false, cond, is_some, Some, None, Option, refl, ap, ◌∙◌, subst, inl, inr, add-one, arith}
+use Rattle.std.proofs.Common.{◌≡◌, ℕ, ◌<◌, ◌≤◌, Bool, true, false, cond, not, List, length, get_or, is_some, Some, None, Option, refl, arith}
 use Rattle.std.specs.Option.{option_map}
-use Rattle.std.proofs.lemmas.Bool.{both_ways, cases_eq}
+use Rattle.std.specs.List.{position_or_len}
+use Rattle.std.proofs.lemmas.Bool.{not-false, ltb-false}
+use Rattle.std.proofs.lemmas.List.Sums.{fails_before_first}
 use Rattle.books.specs.Check.{first, first_no}
 
 pub none_from_test : {A : Type 0} (o : Option A) → is_some o ≡ false → o ≡ None
-none_from_test (Some x) e = absurd (both_ways true e refl)
+none_from_test (Some x) e = cc
 none_from_test None e = refl
 
 -- no answer at all is no first and no second
 pub first_none : {A : Type 0} (x y : Option A) → first x y ≡ None → (x ≡ None) × (y ≡ None)
-first_none (Some x) y e = let z : ◌≡◌ {A = ℕ} 0 1 = cc in absurd (omega arith)
+first_none (Some x) y e = (cc, cc)
 first_none None y e = (refl, e)
 
 pub mapped_none : {A B : Type 0} (f : A → B) (o : Option A) → option_map f o ≡ None → o ≡ None
-mapped_none f (Some x) e = let z : ◌≡◌ {A = ℕ} 0 1 = cc in absurd (omega arith)
+mapped_none f (Some x) e = cc
 mapped_none f None e = refl
 
-cond_none : {A : Type 0} (b : Bool) (x : A) → cond b None (Some x) ≡ None → b ≡ true
-cond_none true x e = refl
-cond_none false x e = let z : ◌≡◌ {A = ℕ} 0 1 = cc in absurd (omega arith)
+cond_none : {A : Type 0} (b : Bool) (x : A) → cond b (Some x) None ≡ None → b ≡ false
+cond_none true x e = cc
+cond_none false x e = refl
 
--- where no detail below n gets a no, each gets a yes
-pub each_yes : (test : ℕ → Bool) (n : ℕ) → first_no test n ≡ None → (k : ℕ) → k < n → test k ≡ true
-each_yes test zero e k h = absurd (omega arith)
-each_yes test (suc n) e k h =
-    let both = first_none (first_no test n) (cond (test n) None (Some n)) e in
-    elim (cases_eq k n) [
-      | inl same ↦ ap test same ∙ cond_none (test n) n both.1
-      | inr other ↦ each_yes test n both.0 k (let below : k < n = omega arith in below)
-    ]
-
--- one more yes
-pub none_more : (test : ℕ → Bool) (n : ℕ) → first_no test n ≡ None → test n ≡ true → first_no test (n + 1) ≡ None
-none_more test n e here = rw add-one (rw (e, here))
-
--- the first no decides for every higher number
-pub no_decides : (test : ℕ → Bool) (i n : ℕ) → first_no test i ≡ None → test i ≡ false → i < n → first_no test n ≡ Some i
-no_decides test i zero e here h = absurd (omega arith)
-no_decides test i (suc n) e here h =
-    elim (cases_eq i n) [
-      | inl same ↦ subst (λ (k : ℕ). first_no test (suc k) ≡ Some i) same (rw (e, here))
-      | inr other ↦ rw (no_decides test i n e here (let below : i < n = omega arith in below))
-    ]
+-- where no element gets a no, each gets a yes
+pub each_yes : {A : Type 0} (right : A → Bool) (xs : List A) (d : A) → first_no right xs ≡ None → (k : ℕ) → k < length xs → right (get_or xs k d) ≡ true
+each_yes right xs d e k h =
+    let past : length xs ≤ position_or_len (λ x. not (right x)) xs = ltb-false _ _ (cond_none _ _ e) in
+    not-false _ (fails_before_first (λ x. not (right x)) xs k d (omega arith))

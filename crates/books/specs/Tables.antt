@@ -1,6 +1,6 @@
 -- What a book's tables mean: an automaton over symbol codes.
 -- A byte's code is the byte; a token's code is its kind.
-use Rattle.std.specs.Prelude.{ℕ, ◌+◌, ◌*◌, Bool, true, ◌&&◌, List, [], ◌∷◌, ◌==◌, slice_index, slice_index_or}
+use Rattle.std.specs.Prelude.{ℕ, ◌+◌, ◌*◌, Bool, true, ◌&&◌, List, [], ◌∷◌, Some, None, Option, ◌==◌, if◌then◌else◌, slice_index, slice_index_or}
 
 -- width is the number of classes, and so of the entries in a row of the step table
 pub record Tables : Type 0 where
@@ -17,6 +17,10 @@ class t x = slice_index t.classes x
 -- the next state, or 255 for none
 abbrev pub step : Tables → ℕ → ℕ → ℕ
 step t s x = slice_index_or t.steps (s * t.width + class t x) 255
+
+-- what a table's byte names: nothing where it is 255
+abbrev pub present : ℕ → Option ℕ
+present x = if x == 255 then None else Some x
 
 -- the rule that a state accepts, or 255 for none
 abbrev pub accept : Tables → ℕ → ℕ

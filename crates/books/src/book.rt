@@ -2,7 +2,7 @@
 mod check;
 mod lookup;
 
-ghost use Rattle.std.specs.Prelude.{◌≡◌, ℕ, ◌<◌, false, is_some, slice_index_or};
+ghost use Rattle.std.specs.Prelude.{◌≡◌, ℕ, ◌<◌, false, IsNone, slice_index_or};
 ghost use Rattle.books.specs.Tables.{closed};
 ghost use Rattle.books.specs.Check.{fault};
 ghost use Rattle.books.specs.Plans.{held};
@@ -14,6 +14,6 @@ pub struct Book {
     copies: Copies,
     // for each state whether it is closed, so that a scan never looks through a row
     flags: [bool; 128],
-    ghost sound: { is_some (fault (held copies)) ≡ false },
-    ghost flagged: { (s : ℕ) → s < copies.states → slice_index_or flags s false ≡ closed (held copies).tables s },
+    ghost sound: { IsNone (fault (held copies)) },
+    ghost flagged: { (s : ℕ) → s < 128 → slice_index_or flags s false ≡ closed (held copies).tables s },
 }

@@ -1,9 +1,10 @@
-ghost use Rattle.std.specs.Prelude.{◌≡◌};
+// Why a draft is no book.
+ghost use Rattle.std.specs.Prelude.{◌≡◌, IsErrAnd, MatchOption};
 ghost use Rattle.books.specs.Refusals.{refusal_of};
 
 use counts::Refusal;
 
-// Why a draft is no book: the question that got the first no, with the detail that it names.
+// The question that got the first no, with the detail that it names, a number in any question since it is told as one.
 #[derive(Clone, Copy, PartialEq, Eq, Debug)]
 pub enum BookFault {
     // which of the counts of states, classes, modes and rules is out of its bounds
@@ -22,12 +23,12 @@ pub enum BookFault {
     Start(usize),
 }
 
-impl BookFault {
-    // The fault as it is told: the layer, the number of the question, and the detail.
-    pub fn refusal(self) -> Refusal
-        ensures { result ≡ refusal_of self }
-    {
-        let (number, detail) = match self {
+// The fault as it is told: the layer, the number of the question, and the detail.
+impl From<BookFault> for Refusal {
+    ghost from_gives = { λ f r. r ≡ refusal_of f };
+
+    fn from(fault: BookFault) -> Refusal {
+        let (number, detail) = match fault {
             BookFault::Count(detail) => (1, detail),
             BookFault::Length(detail) => (2, detail),
             BookFault::Class(detail) => (3, detail),
@@ -42,4 +43,15 @@ impl BookFault {
             detail,
         }
     }
+}
+
+// What a question answers: yes, or the fault at the first detail that got a no.
+pub(crate) fn yes_or<F: FnOnce(usize) -> BookFault>(
+    no: Option<usize>,
+    fault: F,
+) -> Result<(), BookFault>
+    requires { F.IsAlwaysCallable fault }
+    ensures { MatchOption no (result ≡ Ok tt) (λ place. IsErrAnd result (F.post fault place)) }
+{
+    no.map_or(Ok(()), |place| Err(fault(place)))
 }

@@ -5,6 +5,7 @@ mod book;
 mod copies;
 mod draft;
 mod fault;
+mod table;
 
 pub use book::Book;
 pub use draft::Draft;

@@ -7,7 +7,7 @@ mod vectors;
 use std::io::Read;
 
 // How much was found to agree, the end tokens left out.
-#[derive(Clone, Copy)]
+#[derive(Clone, Copy, Default)]
 struct Tally {
     sheets: usize,
     tokens: usize,
@@ -15,17 +15,14 @@ struct Tally {
 
 fn compare(rt: &HostRuntime, vectors: &str) -> anyhow::Result<Tally> {
     let heap = rt.alloc();
-    let mut tally = Tally {
-        sheets: 0,
-        tokens: 0,
-    };
+    let mut tally = Tally::default();
     let answers = vectors.lines().skip(1).step_by(2);
     for (hex, answer) in vectors.lines().step_by(2).zip(answers) {
         let sheet = vectors::sheet(heap, hex)?;
         let mut expected = vectors::spans(heap, answer)?;
         let tokens = expected.len();
         expected.push(vectors::END)?;
-        if reader::agrees(heap, sheet.as_slice(), &expected)? {
+        if reader::agrees(heap, sheet.as_slice(), expected.as_slice())? {
             tally.sheets = tally.sheets.saturating_add(1);
             tally.tokens = tally.tokens.saturating_add(tokens);
         } else {
@@ -35,14 +32,10 @@ fn compare(rt: &HostRuntime, vectors: &str) -> anyhow::Result<Tally> {
     Ok(tally)
 }
 
-fn run(rt: &HostRuntime) -> anyhow::Result<()> {
+fn main(rt: HostRuntime) -> anyhow::Result<()> {
     let mut vectors = String::new(rt.alloc());
     rt.stdin().read_to_string(&mut vectors)?;
-    let Tally { sheets, tokens } = compare(rt, vectors.as_str())?;
+    let Tally { sheets, tokens } = compare(&rt, vectors.as_str())?;
     println!(rt; "{sheets} sheets, {tokens} tokens agree")?;
     Ok(())
-}
-
-fn main(rt: HostRuntime) -> anyhow::Result<()> {
-    run(&rt)
 }

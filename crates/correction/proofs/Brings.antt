@@ -5,11 +5,9 @@ use Rattle.std.proofs.lemmas.Bool.{cases_lt}
 use Rattle.books.specs.Tables.{Tables}
 use Rattle.books.specs.Sound.{Sound}
 use Rattle.reading.specs.Reading.{Entry, read, start, at, reach, batch, greatest}
-use Rattle.reading.specs.Laws.{mode_before}
 use Rattle.reading.specs.Report.{Edit, Edited, Report, Covers, report, first, rejoin, rejoined, changed}
 use Rattle.reading.proofs.Greatest.{greatest_same}
 use Rattle.reading.proofs.Lookback.{Passed}
-use Rattle.reading.proofs.Only.{bare}
 use Rattle.reading.proofs.Split.{same_start}
 use Rattle.reading.proofs.Each.{each_reads}
 use Rattle.reading.proofs.Same.{batch_count, batch_reach, batch_reading, batch_start, batch_mode_before}
@@ -21,12 +19,30 @@ use Rattle.reading.proofs.Steps.{fresh_of}
 use Rattle.reading.proofs.Alike.{alike_length, given_to}
 use Rattle.reading.proofs.Correct.{batch_own, report_is, first_pointer, put_alike, put_begin, put_at, put_given, put_given_all, put_tail, put_limit}
 use Rattle.scanner.proofs.Written.{reach_within}
+use Rattle.scanner.specs.Spots.{Stands}
+use Rattle.correction.specs.declared.correct.Plan.{Plan}
 use Rattle.correction.specs.Walks.{Met, Walked}
+use Rattle.correction.specs.Plans.{Planned}
 use Rattle.correction.specs.Lookbacks.{Awaits, Given}
 use Rattle.correction.specs.Promise.{Brought}
 
-module _ (t : Tables) (b : Sound t) (e : Edit) (xs ys : List ℕ) (es : List Entry) (room : ℕ) (small : room < 2 ^ 64) (met : Met t e xs ys es room)
-    (f starts mode added k limit : ℕ) (f-is : f ≡ first es e.place) (starts_is : starts ≡ start es f) (mode-is : mode ≡ mode_before es f) (w : Walked t e xs ys added k limit) where
+module _ {L B : Type 0} (t : Tables) (b : Sound t) (e : Edit) (xs ys : List ℕ) (es : List Entry) (room : ℕ) (small : room < 2 ^ 64) (met : Met t e xs ys es room)
+    (p : Plan L B) (planned : Planned t e xs ys es p) where
+  abbrev f : ℕ
+  f = p.first.at.number
+
+  abbrev added : ℕ
+  added = p.meeting.added
+
+  abbrev k : ℕ
+  k = p.meeting.old
+
+  abbrev limit : ℕ
+  limit = p.meeting.reach
+
+  abbrev w : Walked t e xs ys added k limit
+  w = planned.walked
+
   abbrev old : List Entry
   old = batch t xs
 
@@ -43,14 +59,14 @@ module _ (t : Tables) (b : Sound t) (e : Edit) (xs ys : List ℕ) (es : List Ent
   fresh = fresh_of t e xs ys
 
   f_eq : f ≡ F
-  f_eq = f-is ∙ ap (λ l. first l e.place) met.list
+  f_eq = cc
 
   -- what is read from the first entry on
-  pub fresh_is : read t mode 0 (drop starts ys) ≡ fresh
-  fresh_is =
-      ap₂ (λ m s. read t m 0 (drop s ys))
-      (mode-is ∙ ap₂ mode_before met.list f_eq ∙ batch_mode_before t xs F)
-      (starts_is ∙ ap₂ start met.list f_eq ∙ batch_start t xs F)
+  abbrev pub again : List Entry
+  again = read t p.first.mode 0 (drop p.first.at.start ys)
+
+  fresh_is : again ≡ fresh
+  fresh_is = cc (f_eq, batch_mode_before t xs F, batch_start t xs F)
 
   first_old : F < length old
   first_old = omega (arith, report_first t b e xs ys d, batch_count t xs)
@@ -59,7 +75,7 @@ module _ (t : Tables) (b : Sound t) (e : Edit) (xs ys : List ℕ) (es : List Ent
   new_count = batch_count t ys ∙ fresh_length t b e xs ys d
 
   -- the new entries are there to be read
-  pub added_within : added ≤ length (read t mode 0 (drop starts ys))
+  pub added_within : added ≤ length again
   added_within = omega (arith, ap length fresh_is, w.rejoin, new_count, rejoin_to old new e (omega (arith, new_count)))
 
   abbrev got : List Entry
@@ -75,7 +91,7 @@ module _ (t : Tables) (b : Sound t) (e : Edit) (xs ys : List ℕ) (es : List Ent
   on = take-append-drop added fresh
 
   n_is : rejoin old new e ≡ F + length got
-  n_is = w.rejoin ∙ ap (λ n. F + n) (sym got_count)
+  n_is = omega (arith, got_count)
 
   abbrev done : List Entry
   done = take F old ++ (got ++ drop (rejoined old new e) old)
@@ -87,27 +103,26 @@ module _ (t : Tables) (b : Sound t) (e : Edit) (xs ys : List ℕ) (es : List Ent
   kept = rejoined old new e
 
   -- the list as it was put
-  module _ (now : List Entry) (now-is : now ≡ take f es ++ (take added (read t mode 0 (drop starts ys)) ++ drop k es)) where
-    pub now_done : now ≡ done
-    now_done =
-        now-is ∙ ap₂ (λ x y. x ++ y) (ap₂ take f_eq met.list) (ap₂ (λ x y. x ++ y) (ap (take added) fresh_is) (ap₂ drop (sym w.rejoined) met.list))
+  module _ (now : List Entry) (now-is : now ≡ take f es ++ (take added again ++ drop k es)) where
+    now_done : now ≡ done
+    now_done = cc (f_eq, fresh_is)
 
     -- is as it was before the first entry
     now_front : take f now ≡ take f es
     now_front =
         ap (take f) now-is ∙
-        take_at (take f es) (take added (read t mode 0 (drop starts ys)) ++ drop k es) f (length-take-le f es (omega (arith, f_eq, first_old, ap length met.list)))
+        take_at (take f es) (take added again ++ drop k es) f (length-take-le f es (omega (arith, f_eq, first_old, ap length met.list)))
 
-    pub now_start : (j : ℕ) → j ≤ f → start now j ≡ start es j
+    now_start : (j : ℕ) → j ≤ f → start now j ≡ start es j
     now_start j h = same_start f es now now_front j h
 
     -- is ready for its lookbacks
-    pub now_awaits : (p : ℕ) → p ≡ f - (at es f).lookback → Awaits now new f p
-    now_awaits p p-is =
-        let pointer : F - (at old F).lookback ≡ p = sym (p-is ∙ ap₂ (λ l i. i - (at l i).lookback) met.list f_eq) in
+    now_awaits : Awaits now new f p.reader.number
+    now_awaits =
+        let pointer : F - (at old F).lookback ≡ p.reader.number = cc f_eq in
         record {
-          alike = ap bare now_done ∙ put_alike t b e xs ys d got rest on n_is;
-          given = ap₂ (λ i l. take i new ++ drop i l) f_eq now_done ∙ put_begin t b e xs ys d got rest on n_is ∙ sym now_done;
+          alike = cc (now_done, put_alike t b e xs ys d got rest on n_is);
+          given = cc (f_eq, now_done, put_begin t b e xs ys d got rest on n_is);
           own = batch_own t ys;
           fit = λ i. omega (arith, reach_within t ys i, batch_reach t ys i, met.room_after);
           passed = subst₂ (λ x y. Passed new x y) pointer (sym f_eq) (first_pointer t b e xs ys d);
@@ -124,14 +139,14 @@ module _ (t : Tables) (b : Sound t) (e : Edit) (xs ys : List ℕ) (es : List Ent
           ap (λ (c : Entry). not (eqb c.lookback (at new (n + pred i)).lookback)) (put_at t b e xs ys d got rest on n_is (pred i))
 
       given_done : after ≡ given_to g.stop new done
-      given_done = g.after_is ∙ ap (λ l. take g.stop new ++ drop g.stop l) now_done
+      given_done = cc now_done
 
       outcome : (after ≡ new) × (greatest (changed old new kept n) (length new - n) ≡ tail)
       outcome =
           elim (cases_lt g.stop (length new)) [
             | inr end ↦
                 let all : g.stop ≡ length new = omega (arith, g.within, end) in
-                (given_done ∙ ap (λ i. given_to i new done) all ∙ put_given_all t b e xs ys d got rest on n_is, sym (tail_at (length new - n) (ap₂ (λ i j. i - j) all n_eq)))
+                (cc (given_done, put_given_all t b e xs ys d got rest on n_is), sym (tail_at (length new - n) (ap₂ (λ i j. i - j) all n_eq)))
             | inl before ↦
                 let q = g.stop - n in
                 let there : n + q ≡ g.stop = omega (arith, through before) in
@@ -143,7 +158,7 @@ module _ (t : Tables) (b : Sound t) (e : Edit) (xs ys : List ℕ) (es : List Ent
                 let n-reached : (i : ℕ) → F ≤ i → i < n → reach new i ≤ limit = λ i h l. w.new_reach i h (omega (arith, got_count)) in
                 let o-far : o ≤ start old (kept + q) = put_limit t b e xs ys d got rest on n_is o limit q reach-old.2 far in
                 let rejoined-given = put_given t b e xs ys d got rest on n_is o limit q o-reached n-reached o-far far in (
-                  given_done ∙ ap (λ i. given_to i new done) (sym there) ∙ rejoined-given,
+                  cc (given_done, rejoined-given),
                   put_tail t b e xs ys d got rest on n_is o limit q o-reached n-reached o-far far (omega (arith, g.within, there)) ∙ sym (tail_at q (ap (λ j. g.stop - j) n_eq)),
                 )
           ]
@@ -159,22 +174,26 @@ module _ (t : Tables) (b : Sound t) (e : Edit) (xs ys : List ℕ) (es : List Ent
                 | inl c ↦ absurd (omega (arith, g.enough h, w.new_reach g.stop (omega (arith, g.from, f_eq)) (omega (arith, got_count)), batch_reading t ys g.stop, each_reads t b ys g.stop (omega (arith, batch_count t ys))))
               ]
 
-      pub brings : (count : ℕ) → count ≡ length now → (r : Report) → r ≡ record { first = f; out = k - f; «in» = added; tail = tail } → Brought t e xs ys count after r
-      brings count count_is r r-is =
+      made : (count : ℕ) → count ≡ length now → (r : Report) → r ≡ record { first = f; out = k - f; «in» = added; tail = tail } → Brought t e xs ys count after r
+      made count count_is r r-is =
           let same : r ≡ report old new e =
-          r-is ∙ (λ i. record { first = f_eq i; out = out_eq i; «in» = in_eq i; tail = tail }) ∙ sym (report_is old new e F kept n tail refl refl n_is outcome.1) in
+          cc (f_eq, in_eq, report_is old new e F kept n tail refl refl n_is outcome.1) in
           record {
-            count_is = count_is ∙ ap length now_done ∙ alike_length done new (put_alike t b e xs ys d got rest on n_is);
+            count_is = cc (now_done, alike_length done new (put_alike t b e xs ys d got rest on n_is));
             list = outcome.0;
             report_is = same;
             covers = subst (λ (x : Report). Covers old new x) (sym same) (covers t b e xs ys d);
           }
         where
-          out_eq : k - f ≡ kept - F
-          out_eq = ap₂ (λ x y. x - y) (sym w.rejoined) f_eq
-
           in_eq : added ≡ n - F
           in_eq = omega (arith, got_count)
+
+    pub brings : (after : List Entry) (behind tail : ℕ) → behind ≡ f + added →
+        ((goal : List Entry) → Stands now p.reader → Stands now p.first.at → Awaits now goal f p.reader.number → Given now goal after f behind limit tail) →
+        (count : ℕ) → count ≡ length now → (r : Report) → r ≡ record { first = f; out = k - f; «in» = added; tail = tail } → Brought t e xs ys count after r
+    brings after behind tail behind-is give =
+        made after behind tail behind-is
+        (give new (planned.reader_stands ∙ sym (now_start p.reader.number (omega (arith, planned.reader_is)))) (planned.stands.0 ∙ sym (now_start f (omega arith))) now_awaits)
 
 -- What no list of a text fails in: the first entry that is read again is there, and starts in the text; and there is room for all
 module _ (t : Tables) (b : Sound t) (e : Edit) (xs ys : List ℕ) (es : List Entry) (room : ℕ) (met : Met t e xs ys es room) (f : ℕ) (f-is : f ≡ first es e.place) where

@@ -1,28 +1,14 @@
 -- The lookbacks given anew, in the numbers that the loop keeps.
-use Rattle.std.proofs.Common.{◌≡◌, ℕ, ◌+◌, ◌-◌, ◌^◌, ◌<◌, ◌≤◌, min, true, false, ◌⊎◌, List, map, length, get_or, set, sym, ap, ◌∙◌, subst, inl, inr, arith}
-use Rattle.std.proofs.lemmas.List.{length-map, map-set}
+use Rattle.std.proofs.Common.{◌≡◌, ℕ, ◌+◌, ◌-◌, ◌^◌, ◌<◌, ◌≤◌, min, true, false, ◌⊎◌, List, map, length, set, sym, ap, ap₂, ◌∙◌, subst, inl, inr, arith}
 use Rattle.std.proofs.lemmas.Bool.{cases_lt}
-use Rattle.reading.specs.Reading.{Entry, start, at, reach, with_lookback, greatest}
+use Rattle.reading.specs.Reading.{Entry, start, at, with_lookback, greatest}
 use Rattle.reading.specs.Report.{changed}
 use Rattle.reading.proofs.Tail.{greatest_more, greatest_less, changed_yes, changed_no}
 use Rattle.reading.proofs.Alike.{alike_start, alike_reach, alike_extent}
 use Rattle.reading.proofs.Giving.{Giving, giving_begins, giving_alike, giving_length, giving_at, giving_lookback, giving_more}
-use Rattle.scanner.specs.declared.entries.Entry.{Entry as Record}
-use Rattle.scanner.specs.Numbers.{numbers, numbered}
-use Rattle.scanner.specs.Spots.{Passed, Fit}
-use Rattle.scanner.proofs.Alike.{with_back}
-use Rattle.scanner.proofs.Starts.{numbered_at}
-use Rattle.correction.specs.Lookbacks.{ReadsStart, Awaits, Given}
-use Rattle.correction.proofs.Sums.{sum_start}
-
-pub reads_start : (es : List Entry) (p j q : ℕ) → q ≡ p → p ≤ j → Passed es p j → (p ≡ j) ⊎ (start es j < reach es p) → ReadsStart es q j
-reads_start es p j q e to passed reads = subst (λ i. ReadsStart es i j) (sym e) (record { to = to; passed = passed; reads = reads })
-
--- a record in a list with another lookback
-pub numbered_set : {L B : Type 0} (l : L → ℕ) (b : B → ℕ) (es : List (Record L B)) (j : ℕ) (d : Record L B) (v : B) → j < length es →
-    numbered l b (set es j (with_back v (get_or es j d))) ≡ set (numbered l b es) j (with_lookback (b v) (at (numbered l b es) j))
-numbered_set l b es j d v h =
-    map-set (numbers l b) es j (with_back v (get_or es j d)) ∙ ap (λ e. set (numbered l b es) j (with_lookback (b v) e)) (sym (numbered_at l b es j d h))
+use Rattle.scanner.specs.Spots.{Passed, Fit, ReadsStart}
+use Rattle.correction.specs.Lookbacks.{Awaits, Given}
+use Rattle.scanner.proofs.Starts.{sum_start}
 
 module _ (put new : List Entry) (kept : ℕ) where
   -- The entries before number i have new's lookbacks, and the list is now this; entry i starts here, and a pointer at entry p, which starts there,
@@ -119,26 +105,21 @@ module _ (put new : List Entry) (kept : ℕ) where
             tail_is = is ∙ g.tail_is;
           }
 
--- one turn, at the records: `spot` and `place` are other names of the entry's number and start, d and x are what two reads of the entry gave, and v is its new lookback
-pub turning_written : {L B : Type 0} (l : L → ℕ) (b : B → ℕ) (put new : List Entry) (kept first p : ℕ) → Awaits put new first p →
-    (now : List (Record L B)) (i here q there last : ℕ) → Turning put new kept (numbered l b now) i here q there last → i < length now →
-    (spot place r there' : ℕ) → spot ≡ i → place ≡ here →
-    (Fit (numbered l b now) → there ≡ start (numbered l b now) q → place ≡ start (numbered l b now) spot → Passed (numbered l b now) q spot → (there' ≡ start (numbered l b now) r) × ReadsStart (numbered l b now) r spot) →
-    (d x y : Record L B) (here' long back was : ℕ) → here' ≡ min (here + long) (2 ^ 64 - 1) → long ≡ l (get_or now i d).length →
-    (v : B) → b v ≡ i - back → back ≡ r → was ≡ b (get_or now i x).lookback → (last' : ℕ) → ((was ≡ i - back) × (last' ≡ last)) ⊎ ((was ≡ i - back → ⊥) × (last' ≡ i + 1)) →
-    Turning put new kept (numbered l b (set now i (with_back v (get_or now i y)))) (i + 1) here' r there' last'
-turning_written l b put new kept first p a now i here q there last g more spot place r there' spot_is place_is follows d x y here' long back was here-is long-is v v-is back_is was-is last' way =
-    let es = numbered l b now in
-    let fit : Fit es = turning_fit put new kept first p a es i here q there last g in
-    let more-new : i < length new = omega (arith, giving_length new put a.alike es i q g.giving, length-map now (numbers l b)) in
-    let starts : place ≡ start es spot = place_is ∙ turning_starts put new kept first p a es i here q there last g ∙ ap (start es) (sym spot_is) in
-    let passed : Passed es q spot = λ j h. omega (arith, g.giving.passed j h, ap (start es) spot_is) in
-    let came = follows fit (turning_stands put new kept first p a es i here q there last g) starts passed in
-    let reads : ReadsStart es r i = subst (λ n. ReadsStart es r n) spot_is came.1 in
-    let back-r : i - back ≡ i - r = ap (λ n. i - n) back_is in
-    let was-at : (at es i).lookback ≡ was = ap (λ e. e.lookback) (numbered_at l b now i x more) ∙ sym was-is in
-    let written : numbered l b (set now i (with_back v (get_or now i y))) ≡ set es i (with_lookback (i - r) (at es i)) =
-    numbered_set l b now i y v more ∙ ap (λ n. set es i (with_lookback n (at es i))) (v-is ∙ back-r) in
-    subst (λ (fs : List Entry). Turning put new kept fs (i + 1) here' r there' last') (sym written)
-    (turning_more put new kept first p a es i here q there last g more-new r there' reads came.0 here' long (ap (λ e. e.length) (numbered_at l b now i d more) ∙ sym long-is) here-is last'
-    (elim way [ inl w ↦ inl (was-at ∙ w.0 ∙ back-r, w.1) | inr w ↦ inr ((λ s. w.0 (sym was-at ∙ s ∙ sym back-r)), w.1) ]))
+-- one turn: x is what was read of the entry, `back` is its new lookback, and `spot` is another name of its number
+pub turning_written : (put new : List Entry) (kept first p : ℕ) → Awaits put new first p → (now : List Entry) (i here q there last : ℕ) → Turning put new kept now i here q there last → i < length now →
+    (spot r there' : ℕ) → spot ≡ i → (Fit now → there ≡ start now q → here ≡ start now spot → Passed now q spot → (there' ≡ start now r) × ReadsStart now r spot) →
+    (x : Entry) → at now i ≡ x → (here' back : ℕ) → here' ≡ min (here + x.length) (2 ^ 64 - 1) → back ≡ i - r →
+    (last' : ℕ) → ((x.lookback ≡ back) × (last' ≡ last)) ⊎ ((x.lookback ≡ back → ⊥) × (last' ≡ i + 1)) →
+    Turning put new kept (set now i (with_lookback back x)) (i + 1) here' r there' last'
+turning_written put new kept first p a now i here q there last g more spot r there' spot_is follows x is here' back here-is back-is last' way =
+    let fit : Fit now = turning_fit put new kept first p a now i here q there last g in
+    let more-new : i < length new = omega (arith, giving_length new put a.alike now i q g.giving) in
+    let starts : here ≡ start now spot = turning_starts put new kept first p a now i here q there last g ∙ ap (start now) (sym spot_is) in
+    let passed : Passed now q spot = λ j h. omega (arith, g.giving.passed j h, ap (start now) spot_is) in
+    let came = follows fit (turning_stands put new kept first p a now i here q there last g) starts passed in
+    let reads : ReadsStart now r i = subst (λ n. ReadsStart now r n) spot_is came.1 in
+    let was : (at now i).lookback ≡ x.lookback = ap (λ e. e.lookback) is in
+    let written : set now i (with_lookback back x) ≡ set now i (with_lookback (i - r) (at now i)) = ap₂ (λ n e. set now i (with_lookback n e)) back-is (sym is) in
+    subst (λ (es : List Entry). Turning put new kept es (i + 1) here' r there' last') (sym written)
+    (turning_more put new kept first p a now i here q there last g more-new r there' reads came.0 here' x.length (ap (λ e. e.length) is) here-is last'
+    (elim way [ inl w ↦ inl (was ∙ w.0 ∙ back-is, w.1) | inr w ↦ inr ((λ s. w.0 (sym was ∙ s ∙ sym back-is)), w.1) ]))

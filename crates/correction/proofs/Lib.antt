@@ -1,5 +1,5 @@
 pub mod Sums
+pub mod Gives
 pub mod Runs
 pub mod Meets
-pub mod Gives
 pub mod Brings

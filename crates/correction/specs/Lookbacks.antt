@@ -1,14 +1,8 @@
 -- What is known where lookbacks are given anew.
-use Rattle.std.specs.Prelude.{◌≡◌, ℕ, ◌-◌, ◌<◌, ◌≤◌, ◌⊎◌, List, ◌++◌, map, length, take, drop}
-use Rattle.reading.specs.Reading.{Entry, start, at, reach, lookback, with_lookback, greatest}
+use Rattle.std.specs.Prelude.{◌≡◌, ℕ, ◌-◌, ◌<◌, ◌≤◌, List, ◌++◌, map, length, take, drop}
+use Rattle.reading.specs.Reading.{Entry, start, at, lookback, with_lookback, greatest}
 use Rattle.reading.specs.Report.{changed}
 use Rattle.scanner.specs.Spots.{Passed, Fit}
-
--- a pointer at entry p: none before it reads the start of entry j, and it reads that itself, or is j
-pub record ReadsStart (es : List Entry) (p j : ℕ) : Type 0 where
-  pub to : p ≤ j
-  pub passed : Passed es p j
-  pub reads : (p ≡ j) ⊎ (start es j < reach es p)
 
 -- The list `put` is `new` but for the lookbacks, of which those before `first` are new's already; new's entries have their own, and a pointer at
 -- entry p, before which none reads first's start, may begin there

@@ -3,15 +3,6 @@ use Rattle.std.specs.Prelude.{◌≡◌, ℕ, ◌+◌, ◌<◌, ◌≤◌, List,
 use Rattle.books.specs.Tables.{Tables}
 use Rattle.reading.specs.Reading.{Entry, reach, batch}
 use Rattle.reading.specs.Report as report
-use Rattle.correction.specs.declared.edits.Edit.{Edit}
-use Rattle.correction.specs.declared.edits.Report.{Report}
-
--- an edit and a report by the numbers that their counts hold
-abbrev pub edit_of : {L : Type 0} → (L → ℕ) → Edit L → report.Edit
-edit_of l e = report.edit (l e.place) (l e.cut) (l e.inserted)
-
-abbrev pub report_of : {B : Type 0} → (B → ℕ) → Report B → report.Report
-report_of b r = record { first = b r.first; out = b r.out; «in» = b r.added; tail = b r.tail }
 
 -- the list is that of a text xs, which the edit has turned into ys; neither text has more symbols than there is room for
 pub record Met (t : Tables) (e : report.Edit) (xs ys : List ℕ) (old : List Entry) (room : ℕ) : Type 0 where

@@ -1,32 +1,30 @@
-// The boundaries of a list's entries, by the sums of their lengths. A sum that does not fit its number stops growing: no list of a text has one.
+// The boundaries of a list's entries, by the sums of their lengths.
 ghost use Rattle.std.specs.Prelude.{◌≡◌, ◌≤◌, length};
 ghost use Rattle.reading.specs.Report.{first as earliest};
-ghost use Rattle.scanner.specs.Numbers.{numbered};
 ghost use Rattle.scanner.specs.Spots.{Fit};
 ghost use Rattle.correction.specs.Boundaries.{Stands, Passes};
 
 use counts::Count;
-use scanner::Entry;
+use scanner::{Entry, Spot};
 
-// An entry's number in its list, where the entry starts, and the mode in which it is read.
+// An entry's spot, and the mode in which the entry is read.
 #[derive(Clone, Copy)]
 pub(crate) struct Boundary<L, B> {
-    pub(crate) number: B,
-    pub(crate) start: L,
+    pub(crate) at: Spot<L, B>,
     pub(crate) mode: u8,
 }
 
-impl<L: Count, B: Count> Boundary<L, B> {
-    pub(crate) fn index(&self) -> usize
-        ensures { result ≡ B.Count.number self.now.number }
+impl<L: Copy, B: Copy> Boundary<L, B> {
+    pub(crate) fn number(&self) -> usize
+        ensures { result ≡ self.now.at.number }
     {
-        self.number.get()
+        self.at.number.get()
     }
 
-    pub(crate) fn place(&self) -> usize
-        ensures { result ≡ L.Count.number self.now.start }
+    pub(crate) fn start(&self) -> usize
+        ensures { result ≡ self.now.at.start }
     {
-        self.start.get()
+        self.at.place()
     }
 }
 
@@ -34,59 +32,58 @@ impl<L: Count, B: Count> Boundary<L, B> {
 #[derive(Drop)]
 pub(crate) struct Passage<L, B> {
     pub(crate) to: Boundary<L, B>,
-    pub(crate) reach: L,
+    pub(crate) reach: Count<L>,
 }
 
 // The first entry that reads the place or a later one, or the end of the list.
-pub(crate) fn find_first<L: Count, B: Count>(entries: &[Entry<L, B>], place: L) -> Boundary<L, B>
-    ensures within { B.Count.number result.number ≤ length entries.now }
-    ensures first { Fit (numbered L.Count.number B.Count.number entries.now) → (B.Count.number result.number ≡ earliest (numbered L.Count.number B.Count.number entries.now) (L.Count.number place)) × Stands L.Count.number B.Count.number (numbered L.Count.number B.Count.number entries.now) result }
+pub(crate) fn find_first<L: Copy, B: Copy>(
+    entries: &[Entry<L, B>],
+    place: Count<L>,
+) -> Boundary<L, B>
+    ensures within { result.at.number ≤ length entries.now }
+    ensures first { Fit entries.now → (result.at.number ≡ earliest entries.now place) × Stands entries.now result }
 {
     let place = place.get();
-    let mut number = 0;
-    let mut start: usize = 0;
+    let mut at = Spot::first();
     let mut mode = 0;
-    while number < entries.len() && start.saturating_add(entries[number].reading.get()) <= place {
-        let passed = entries[number];
-        start = start.saturating_add(passed.length.get());
-        mode = passed.mode;
-        number += 1;
+    for entry in entries {
+        let far = at.reach(entry);
+        if place < far {
+            break;
+        }
+        at = at.next(entry);
+        mode = entry.mode;
     }
-    Boundary {
-        number: B::of(number),
-        start: L::of(start),
-        mode,
-    }
+    Boundary { at, mode }
 }
 
-// Goes on over the entries that start before the place.
-pub(crate) fn pass<L: Count, B: Count>(
+// Goes on over the entries that start before the place. It stops by another test than `find_first`: a closure for the test would be no plainer, its contract being about the closure's answers.
+pub(crate) fn pass<L: Copy, B: Copy>(
     entries: &[Entry<L, B>],
     from: Passage<L, B>,
-    place: L,
+    place: Count<L>,
 ) -> Passage<L, B>
-    ensures on { B.Count.number from.to.number ≤ B.Count.number result.to.number }
-    ensures within { B.Count.number from.to.number ≤ length entries.now → B.Count.number result.to.number ≤ length entries.now }
-    ensures passes { Fit (numbered L.Count.number B.Count.number entries.now) → Stands L.Count.number B.Count.number (numbered L.Count.number B.Count.number entries.now) from.to → Stands L.Count.number B.Count.number (numbered L.Count.number B.Count.number entries.now) result.to × Passes (numbered L.Count.number B.Count.number entries.now) (B.Count.number from.to.number) (B.Count.number result.to.number) (L.Count.number place) (L.Count.number from.reach) (L.Count.number result.reach) }
+    requires { from.to.at.number ≤ length entries.now }
+    ensures on { from.to.at.number ≤ result.to.at.number }
+    ensures within { result.to.at.number ≤ length entries.now }
+    ensures passes { Fit entries.now → Stands entries.now from.to → Stands entries.now result.to × Passes entries.now from.to.at.number result.to.at.number place from.reach result.reach }
 {
     let place = place.get();
-    let mut number = from.to.number.get();
-    let mut start = from.to.start.get();
-    let mut mode = from.to.mode;
-    let mut reach = from.reach.get();
-    while number < entries.len() && start < place {
-        let passed = entries[number];
-        reach = reach.max(start.saturating_add(passed.reading.get()));
-        start = start.saturating_add(passed.length.get());
-        mode = passed.mode;
-        number += 1;
+    let Passage { to, reach } = from;
+    let number = to.number();
+    let mut reach = reach.get();
+    let mut at = to.at;
+    let mut mode = to.mode;
+    for entry in &entries[number..] {
+        if place <= at.place() {
+            break;
+        }
+        reach = reach.max(at.reach(entry));
+        at = at.next(entry);
+        mode = entry.mode;
     }
     Passage {
-        to: Boundary {
-            number: B::of(number),
-            start: L::of(start),
-            mode,
-        },
-        reach: L::of(reach),
+        to: Boundary { at, mode },
+        reach: Count::of(reach),
     }
 }

@@ -1,72 +1,89 @@
-// Counts of bytes, of tokens and of lines: one struct each around a number, so that none is taken where another is due.
+// Counts of bytes, of tokens and of lines: numbers with a unit, so that none is taken where another is due.
 #![tactic(auto)]
 
-ghost use Rattle.std.specs.Prelude.{◌≡◌, ℕ};
+ghost use Rattle.std.specs.Prelude.{◌≡◌, ◌∷◌, ◌++◌, Some, decimal};
+ghost use Rattle.std.specs.Fmt.{styled_decimal};
 
-// What a struct around a number gives generic code: the number, both ways.
-pub trait Count: Copy {
-    ghost number: { Self → ℕ };
+use std::fmt;
+use std::marker::{Model, PhantomData};
 
-    fn of(n: usize) -> Self
-        ensures { number result ≡ n };
+// The unit of numbers of bytes, and of places in a text.
+#[derive(Clone, Copy, PartialEq, Eq, PartialOrd, Ord, Debug, Default)]
+pub struct Bytes;
 
-    fn get(self) -> usize
-        ensures { result ≡ number self };
+// The unit of numbers of tokens, and of a token's number in its list.
+#[derive(Clone, Copy, PartialEq, Eq, PartialOrd, Ord, Debug, Default)]
+pub struct Tokens;
+
+// The unit of numbers of lines, and of a line's number in its list.
+#[derive(Clone, Copy, PartialEq, Eq, PartialOrd, Ord, Debug, Default)]
+pub struct Lines;
+
+// How many there are of what the unit names, or which of them one is, counted from 0. A contract sees the number.
+#[derive(Clone, Copy, PartialEq, Eq, PartialOrd, Ord, Debug, Default)]
+pub struct Count<U> {
+    number: usize,
+    unit: PhantomData<U>,
 }
 
-// A number of bytes, or a place in a text, counted from 0.
-#[derive(Clone, Copy, PartialEq, Eq, PartialOrd, Ord, Debug)]
-pub struct ByteCount(pub usize);
+impl<U> Model for Count<U> {
+    ghost use Rattle.std.specs.Prelude.{ℕ};
 
-// A number of tokens, or a token's number in its list, counted from 0.
-#[derive(Clone, Copy, PartialEq, Eq, PartialOrd, Ord, Debug)]
-pub struct TokenCount(pub usize);
+    ghost Value = { ℕ };
 
-// A number of lines, or a line's number in its list, counted from 0.
-#[derive(Clone, Copy, PartialEq, Eq, PartialOrd, Ord, Debug)]
-pub struct LineCount(pub usize);
+    ghost view = { λ c. c.number };
 
-impl Count for ByteCount {
-    ghost number = { λ c. c.0 };
+    ghost inverse = { λ n. record { number = n; unit = record {} } };
+}
 
-    fn of(n: usize) -> ByteCount {
-        ByteCount(n)
+pub type ByteCount = Count<Bytes>;
+
+pub type TokenCount = Count<Tokens>;
+
+pub type LineCount = Count<Lines>;
+
+impl<U> Count<U> {
+    pub fn of(number: usize) -> Count<U>
+        ensures { result ≡ number }
+    {
+        Count {
+            number,
+            unit: PhantomData,
+        }
     }
 
-    fn get(self) -> usize {
-        self.0
+    pub fn get(self) -> usize
+        ensures { result ≡ self }
+    {
+        self.number
     }
 }
 
-impl Count for TokenCount {
-    ghost number = { λ c. c.0 };
+// The number alone.
+impl<U> fmt::Display for Count<U> {
+    ghost output = { λ c. Some (decimal c) };
 
-    fn of(n: usize) -> TokenCount {
-        TokenCount(n)
-    }
+    ghost styled_output = { λ c s. Some (styled_decimal s c) };
 
-    fn get(self) -> usize {
-        self.0
-    }
-}
-
-impl Count for LineCount {
-    ghost number = { λ c. c.0 };
-
-    fn of(n: usize) -> LineCount {
-        LineCount(n)
-    }
-
-    fn get(self) -> usize {
-        self.0
+    fn fmt<W: fmt::Write>(&self, f: &mut fmt::Formatter<W>) -> fmt::Result {
+        fmt::Display::fmt(&self.number, f)
     }
 }
 
 // A refusal as it is told: the layer that refuses (1 the store, 2 the book, 3 the sheet), the number of the question that got a no,
-// and the detail that the question names.
+// and the detail that the question names. Numbers, since a host is told them; code goes by the faults' enums.
 #[derive(Clone, Copy, PartialEq, Eq, Debug)]
 pub struct Refusal {
     pub layer: u8,
     pub number: u8,
     pub detail: usize,
+}
+
+// The three numbers, a blank between each and the next.
+impl fmt::Display for Refusal {
+    ghost output = { λ r. Some (decimal r.layer ++ (32 ∷ decimal r.number ++ (32 ∷ decimal r.detail))) };
+
+    fn fmt<W: fmt::Write>(&self, f: &mut fmt::Formatter<W>) -> fmt::Result {
+        write!(f, "{} {} {}", self.layer, self.number, self.detail)
+    }
 }

@@ -8,18 +8,18 @@ use Rattle.text.specs.Refused as store
 use Rattle.text.specs.Replaced.{replaced}
 use Rattle.books.specs.Tables.{Tables}
 use Rattle.books.specs.Meaning.{tables}
+use Rattle.books.proofs.Questions.{mapped_none}
 use Rattle.reading.specs.Reading.{Entry, batch, kinds}
 use Rattle.reading.specs.Report.{edit}
 use Rattle.reading.proofs.Lists.{start_step, start_within}
 use Rattle.reading.proofs.Batch.{batch_adds_up}
 use Rattle.requests.specs.declared.faults.SheetFault.{SheetFault}
 use Rattle.requests.specs.declared.faults.SheetFault.TheVariants.{Store}
-use Rattle.requests.specs.declared.answers.Reports as given
-use Rattle.requests.specs.Asked.{Asked, correct, token, line, where_is, time, copy, alike, Answered, refused, reported, entry_is, stands, time_is, alike_is}
+use Rattle.requests.specs.Asked.{Asked, correct, token, line, where_is, time, copy, alike, Reports, Answered, refused, reported, entry_is, stands, time_is, alike_is}
 use Rattle.requests.specs.Sheets.{token_list, line_list, reports, refusal, where_in, bytes_of, time_of, copy_of, alike_in, answer, text_after}
 use Rattle.requests.specs.Sheets as sheets
 use Rattle.requests.specs.Told.{told}
-use Rattle.requests.specs.Plain.{plain, corrected}
+use Rattle.requests.specs.Plain.{corrected}
 use Rattle.questions.specs.Loose.{LiesWithin}
 use Rattle.sheet.specs.declared.sheets.Sheet.{Sheet}
 use Rattle.sheet.specs.Lists.{tokens_of, lines_of, Right}
@@ -36,7 +36,7 @@ asked_as h k s u room r q a e m = subst (λ x. Made h k s u room x a) (sym e) m
 
 module _ {S : Type 0} (h : Sheet S) (s : List ℕ) (room : ℕ) (ok : Right h s room) where
   pub own_lies : (n : ℕ) → LiesWithin s (tokens_of h) n
-  own_lies n = subst (λ es. LiesWithin s es n) (sym ok.tokens) (lies_within (tables h.token_book) s n)
+  own_lies n = subst (λ es. LiesWithin s es n) (sym ok.tokens) (lies_within (tables h.tokens.book) s n)
 
   pub made_token : (n : ℕ) (x : Option Entry) → x ≡ slice_get (tokens_of h) n → Made h h s s room (token n) (entry_is x)
   unfolding answer text_after
@@ -70,27 +70,23 @@ module _ {S : Type 0} (h : Sheet S) (s : List ℕ) (room : ℕ) (ok : Right h s 
   -- a correction, as it is answered and as it is defined
   module _ (k : Sheet S) (u : List ℕ) (a c : ℕ) (i : List ℕ) where
     abbrev t : Tables
-    t = tables h.token_book
+    t = tables h.tokens.book
 
     abbrev l : Tables
-    l = tables h.line_book
-
-    taken : (f : Option StoreFault) → None ≡ option_map Store f → f ≡ None
-    taken None e = refl
-    taken (Some f) e = let z : ◌≡◌ {A = ℕ} 0 1 = cc in absurd (omega arith)
+    l = tables h.lines.book
 
     not_taken : (y : SheetFault) (f : Option StoreFault) → Some y ≡ option_map Store f → (z : StoreFault) × (f ≡ Some z) × (y ≡ Store z)
-    not_taken y None e = let z : ◌≡◌ {A = ℕ} 0 1 = cc in absurd (omega arith)
+    not_taken y None e = absurd cc
     not_taken y (Some f) e = (f, refl, cc)
 
-    pub made_correct : (r : Result given.Reports SheetFault) →
+    pub made_correct : (r : Result Reports SheetFault) →
         result_err r ≡ option_map Store (store.refused (length s) room a c (length i)) →
         MatchResult r (λ _. u ≡ replaced s a c i) (λ _. (k ≡ h) × (u ≡ s)) →
-        IfOk r (λ p. Right k u room × (plain p ≡ reports t l s u (edit a c (length i)))) →
+        IfOk r (λ p. Right k u room × (p ≡ reports t l s u (edit a c (length i)))) →
         Made h k s u room (correct a c i) (corrected r)
     unfolding answer
     made_correct (Ok p) e m q =
-        let none : refusal room s a c i ≡ None = ap (option_map store.told) (taken _ e) in
+        let none : refusal room s a c i ≡ None = ap (option_map store.told) (mapped_none Store _ (sym e)) in
         record {
           text = m ∙ sym (text_taken room s a c i none);
           right = q.0;

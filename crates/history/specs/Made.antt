@@ -10,4 +10,4 @@ use Rattle.sheet.specs.Lists.{Right}
 pub record Made {S : Type 0} (h k : Sheet S) (s u : List ℕ) (room : ℕ) (r : Asked) (a : Answered) : Type 0 where
   pub text : u ≡ text_after room s r
   pub right : Right k u room
-  pub answer_is : a ≡ answer (tables h.token_book) (tables h.line_book) room s r
+  pub answer_is : a ≡ answer (tables h.tokens.book) (tables h.lines.book) room s r

@@ -23,7 +23,7 @@ fn make_all<S: TextStore>(
     requires right { Right sheet (S.TextStore.text sheet.store) (S.TextStore.room sheet.store) }
     requires none { answers.items ≡ [] }
     requires enough { vec_len requests ≤ vec_capacity answers }
-    ensures history { History (tables sheet.token_book) (tables sheet.line_book) (S.TextStore.room sheet.store) (S.TextStore.text sheet.store) (map asked requests.items) (map answered result.answers.items) (S.TextStore.text result.sheet.store) (tokens_of result.sheet) (lines_of result.sheet) }
+    ensures history { History (tables sheet.tokens.book) (tables sheet.lines.book) (S.TextStore.room sheet.store) (S.TextStore.text sheet.store) (map asked requests.items) (map answered result.answers.items) (S.TextStore.text result.sheet.store) (tokens_of result.sheet) (lines_of result.sheet) }
     ensures room { S.TextStore.room result.sheet.store ≡ S.TextStore.room sheet.store }
     ensures kept { Keeps sheet result.sheet }
 {
@@ -47,15 +47,12 @@ pub fn perform<S: TextStore>(
     ensures history { IfOk result (λ p. History (tables parts.token_book) (tables parts.line_book) (S.TextStore.room parts.store) (S.TextStore.text parts.store) (map asked requests.items) (map answered p.answers.items) (S.TextStore.text p.sheet.store) (tokens_of p.sheet) (lines_of p.sheet)) }
     ensures kept { IfOk result (λ p. (S.TextStore.room p.sheet.store ≡ S.TextStore.room parts.store) × MadeOf parts p.sheet) }
 {
-    let answers = match Vec::with_capacity(heap, requests.len()) {
-        Ok(answers) => answers,
-        Err(_) => {
-            return Err(Unperformed {
-                reason: Reason::NoMemory,
-                parts,
-                requests,
-            });
-        }
+    let Ok(answers) = Vec::with_capacity(heap, requests.len()) else {
+        return Err(Unperformed {
+            reason: Reason::NoMemory,
+            parts,
+            requests,
+        });
     };
     match Sheet::open(parts) {
         Ok(sheet) => Ok(make_all(sheet, requests, answers)),

@@ -2,6 +2,7 @@
 #![tactic(auto)]
 
 mod lines;
+mod sound;
 mod tokens;
 
 pub use lines::line_book;

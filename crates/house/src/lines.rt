@@ -4,6 +4,7 @@ ghost use Rattle.books.specs.Meaning.{tables};
 ghost use Rattle.house.specs.House.{house_lines};
 ghost use Rattle.house.specs.Meaning.{LinesRight};
 
+use crate::sound::sound;
 use books::{Book, Draft};
 
 // The class of each kind: 1 a newline token, 2 a stamp, 0 every other.
@@ -46,7 +47,7 @@ pub fn line_book() -> Book
     ensures value { tables result ≡ house_lines }
     ensures lines { LinesRight (tables result) }
 {
-    let draft = Draft {
+    sound(Draft {
         states: 5,
         classes: 3,
         modes: 1,
@@ -56,9 +57,5 @@ pub fn line_book() -> Book
         accept_table: &ACCEPTS,
         rule_table: &RULES,
         start_table: &STARTS,
-    };
-    match Book::check(draft) {
-        Ok(book) => book,
-        Err(_) => unreachable(),
-    }
+    })
 }

@@ -5,6 +5,7 @@ ghost use Rattle.house.specs.House.{house_tokens};
 ghost use Rattle.house.specs.Meaning.{ClassesRight, RulesApart, TokensByRules, StepsWhileMatching};
 ghost use Rattle.house.specs.Sheets.{WorkedSheets};
 
+use crate::sound::sound;
 use books::{Book, Draft};
 
 // The class of each byte: 1 blank, 2 newline, 3 [, 4 ], 5 digit, 6 :, 7 ., 8 {, 9 }, 10 <, 11 >, 12 *, 0 every other.
@@ -13,17 +14,17 @@ const CLASSES: [u8; 256] = [
     0, 0, 0, 0, 0, 0, 0, 0, 0, 1, 2, 0, 0, 1, 0, 0,
     // from 16
     0, 0, 0, 0, 0, 0, 0, 0, 0, 0, 0, 0, 0, 0, 0, 0,
-    // from 32: the blank, the star, the dot, the digits, the colon and the angle brackets
+    // from 32: the blank, the star and the dot
     1, 0, 0, 0, 0, 0, 0, 0, 0, 0, 12, 0, 0, 0, 7, 0,
-    // from 48
+    // from 48: the digits, the colon and the angle brackets
     5, 5, 5, 5, 5, 5, 5, 5, 5, 5, 6, 0, 10, 0, 11, 0,
-    // from 64: the square brackets
+    // from 64
     0, 0, 0, 0, 0, 0, 0, 0, 0, 0, 0, 0, 0, 0, 0, 0,
-    // from 80
+    // from 80: the square brackets
     0, 0, 0, 0, 0, 0, 0, 0, 0, 0, 0, 3, 0, 4, 0, 0,
-    // from 96: the braces
+    // from 96
     0, 0, 0, 0, 0, 0, 0, 0, 0, 0, 0, 0, 0, 0, 0, 0,
-    // from 112
+    // from 112: the braces
     0, 0, 0, 0, 0, 0, 0, 0, 0, 0, 0, 8, 0, 9, 0, 0,
     // from 128
     0, 0, 0, 0, 0, 0, 0, 0, 0, 0, 0, 0, 0, 0, 0, 0, 0, 0, 0, 0, 0, 0, 0, 0, 0, 0, 0, 0, 0, 0, 0, 0,
@@ -100,7 +101,7 @@ pub fn token_book() -> Book
     ensures steps { StepsWhileMatching (tables result) }
     ensures sheets { WorkedSheets (tables result) }
 {
-    let draft = Draft {
+    sound(Draft {
         states: 22,
         classes: 13,
         modes: 2,
@@ -110,9 +111,5 @@ pub fn token_book() -> Book
         accept_table: &ACCEPTS,
         rule_table: &RULES,
         start_table: &STARTS,
-    };
-    match Book::check(draft) {
-        Ok(book) => book,
-        Err(_) => unreachable(),
-    }
+    })
 }

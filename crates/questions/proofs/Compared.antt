@@ -1,67 +1,57 @@
 -- Kinds of tokens compared.
-use Rattle.std.proofs.Common.{◌≡◌, ℕ, ◌+◌, ◌-◌, ◌^◌, ◌<◌, ◌≤◌, min, Bool, true, false, ◌&&◌, eqb, ltb, ◌⊎◌, List, [], ◌∷◌, length, get_or, take, drop, Some, None, sym, refl, ap, ◌∙◌, ap₂, inl, inr, arith}
-use Rattle.std.proofs.lemmas.List.{length-map, length-drop, take-map, drop-map, take_all, drop_all, drop_more}
-use Rattle.std.proofs.lemmas.Bool.{cases_lt, lt-ltb, le-ltb, eq-eqb, ne_eqb, cond-true, cond-false, and_from, and_left, and_right}
+use Rattle.std.proofs.Common.{◌≡◌, ℕ, ◌-◌, ◌^◌, ◌<◌, min, Bool, true, false, List, [], ◌∷◌, length, take, drop, Some, None, Option, nat_eq, sym, ap, ◌∙◌, subst, arith}
+use Rattle.std.specs.List.{AllZip}
+use Rattle.std.specs.Option.{MatchOption, IfSome}
+use Rattle.std.specs.Iterator.{AlwaysYields, YieldsThen, ComparesItemsByEq}
+use Rattle.std.proofs.lemmas.Bool.Decides.{nat_tests}
+use Rattle.std.proofs.lemmas.Iterator.{YieldsList}
+use Rattle.std.proofs.lemmas.List.{take-map, drop-map}
+use Rattle.std.proofs.lemmas.Grind.{common_steps}
 use Rattle.reading.specs.Reading.{Entry, start, at}
-use Rattle.scanner.specs.declared.entries.Entry.{Entry as Record}
 use Rattle.scanner.specs.Numbers.{kinds_of}
-use Rattle.requests.specs.Sheets.{same, kinds_in, alike_in}
+use Rattle.requests.specs.Sheets.{same, kinds_in}
 
--- lists of two lengths are not the same
-pub same_lengths : (xs ys : List ℕ) → (length xs ≡ length ys → ⊥) → false ≡ same xs ys
-same_lengths [] [] h = absurd (h refl)
-same_lengths [] (y ∷ ys) h = refl
-same_lengths (x ∷ xs) [] h = refl
-same_lengths (x ∷ xs) (y ∷ ys) h = sym (and_right (eqb x y) (same xs ys) (sym (same_lengths xs ys (λ e. h (omega arith)))))
+-- what `eq` answers of two chains that give the numbers ks and ls
+module _ {S T : Type 0} (steps : S → Option ℕ → S → Type 0) (others : T → Option ℕ → T → Type 0) where
+  ended : (s u : S) (t v : T) (ks ls : List ℕ) (o p : Option ℕ) (r : Bool) → AlwaysYields steps (λ x. x) s ks → AlwaysYields others (λ x. x) t ls → steps s o u → others t p v →
+      MatchOption o (MatchOption p (r ≡ true) (λ _. r ≡ false)) (λ x. (r ≡ false) × IfSome p (λ y. nat_eq x y ≡ false)) → r ≡ same ks ls
+  ended s u t v [] [] None None r a b f g h = h
+  ended s u t v [] [] None (Some y) r a b f g h = absurd (b y v g)
+  ended s u t v [] (l ∷ ls) None None r a b f g h = absurd (b.0 v g)
+  ended s u t v [] (l ∷ ls) None (Some y) r a b f g h = h
+  ended s u t v [] ls (Some x) p r a b f g h = absurd (a x u f)
+  ended s u t v (k ∷ ks) ls None p r a b f g h = absurd (a.0 u f)
+  ended s u t v (k ∷ ks) [] (Some x) p r a b f g h = h.0
+  ended s u t v (k ∷ ks) (l ∷ ls) (Some x) None r a b f g h = absurd (b.0 v g)
+  ended s u t v (k ∷ ks) (l ∷ ls) (Some x) (Some y) r a b f g h =
+      let x-is : x ≡ k = (a.1 x u f).0 in
+      let y-is : y ≡ l = (b.1 y v g).0 in
+      let other : nat_eq x y ≡ false = h.1 in
+      grind (arith, nat_tests)
 
-module _ {L B : Type 0} (a b : List (Record L B)) where
-  pub other_lengths : (length a ≡ length b → ⊥) → false ≡ same (kinds_of a) (kinds_of b)
-  other_lengths h = same_lengths (kinds_of a) (kinds_of b) (λ e. h (omega (arith, length-map a (λ x. x.kind), length-map b (λ x. x.kind))))
+  going : (s u : S) (t v : T) (ks ls xs ys : List ℕ) (o p : Option ℕ) (r : Bool) → AlwaysYields steps (λ x. x) s ks → AlwaysYields others (λ x. x) t ls → YieldsThen steps s xs o u → YieldsThen others t ys p v →
+      AllZip (λ x y. nat_eq x y ≡ true) xs ys → MatchOption o (MatchOption p (r ≡ true) (λ _. r ≡ false)) (λ x. (r ≡ false) × IfSome p (λ y. nat_eq x y ≡ false)) → r ≡ same ks ls
+  going s u t v ks ls [] [] o p r a b f g z h =
+      ended f.0 u g.0 v ks ls o p r (subst (λ (w : S). AlwaysYields steps (λ x. x) w ks) f.1 a) (subst (λ (w : T). AlwaysYields others (λ x. x) w ls) g.1 b) f.2 g.2 h
+  going s u t v ks ls [] (y ∷ ys) o p r a b f g z h = absurd z
+  going s u t v ks ls (x ∷ xs) [] o p r a b f g z h = absurd z
+  going s u t v [] ls (x ∷ xs) (y ∷ ys) o p r a b f g z h = absurd (a x f.1.0 f.1.1)
+  going s u t v (k ∷ ks) [] (x ∷ xs) (y ∷ ys) o p r a b f g z h = absurd (b y g.1.0 g.1.1)
+  going s u t v (k ∷ ks) (l ∷ ls) (x ∷ xs) (y ∷ ys) o p r a b f g z h =
+      let first = a.1 x f.1.0 f.1.1 in
+      let second = b.1 y g.1.0 g.1.1 in
+      let rest = going f.1.0 u g.1.0 v ks ls xs ys o p r first.1 second.1 (f.0, f.1.2, f.2) (g.0, g.1.2, g.2) z.1 h in
+      let x-is : x ≡ k = first.0 in
+      let y-is : y ≡ l = second.0 in
+      let equal : nat_eq x y ≡ true = z.0 in
+      grind (arith, nat_tests)
 
-  module _ (i : ℕ) (x y : Record L B) (ha : i < length a) (hb : i < length b) where
-    here : same (kinds_of (drop i a)) (kinds_of (drop i b)) ≡ (eqb (get_or a i x).kind (get_or b i y).kind && same (kinds_of (drop (i + 1) a)) (kinds_of (drop (i + 1) b)))
-    here = ap₂ same (ap kinds_of (drop_more a i x ha)) (ap kinds_of (drop_more b i y hb))
+pub compared : {S T : Type 0} {steps : S → Option ℕ → S → Type 0} {others : T → Option ℕ → T → Type 0} (s : S) (t : T) (ks ls : List ℕ) (r : Bool) → ComparesItemsByEq steps (λ u v. v ≡ u) others s t nat_eq r →
+    YieldsList steps (λ x. x) s ks → YieldsList others (λ x. x) t ls → r ≡ same ks ls
+compared {T = T} {steps = steps} {others = others} s t ks ls r (there, xs, ys, o, p, u, v, is, f, g, z, h) a b = going steps others s u there v ks ls xs ys o p r a.runs (subst (λ (w : T). YieldsList others (λ x. x) w ls) (sym is) b).runs f g z h
 
-    pub same_more : (r : Bool) → r ≡ same (kinds_of (drop i a)) (kinds_of (drop i b)) → (get_or a i x).kind ≡ (get_or b i y).kind → r ≡ same (kinds_of (drop (i + 1) a)) (kinds_of (drop (i + 1) b))
-    same_more r e k = e ∙ here ∙ ap (λ t. t && same (kinds_of (drop (i + 1) a)) (kinds_of (drop (i + 1) b))) (eq-eqb _ _ k)
-
-    pub same_not : (r : Bool) → r ≡ same (kinds_of (drop i a)) (kinds_of (drop i b)) → ((get_or a i x).kind ≡ (get_or b i y).kind → ⊥) → false ≡ r
-    same_not r e k = sym (e ∙ here ∙ and_left _ _ (ne_eqb _ _ k))
-
-  pub same_all : (i : ℕ) (r : Bool) → length a ≤ i → length b ≤ i → r ≡ same (kinds_of (drop i a)) (kinds_of (drop i b)) → true ≡ r
-  same_all i r ha hb e = sym (e ∙ ap₂ (λ xs ys. same (kinds_of xs) (kinds_of ys)) (drop_all i a ha) (drop_all i b hb))
-
--- a part of a list by bounds that stay within it
-pub clipped : {X : Type 0} (xs : List X) (from long s l : ℕ) → s ≡ min from (length xs) → l ≡ min long (length xs - s) → take l (drop s xs) ≡ take long (drop from xs)
-clipped xs from long s l es el =
-    elim (cases_lt from (length xs)) [
-      | inl h ↦
-          let e : s ≡ from = omega arith in
-          ap (λ n. take l (drop n xs)) e ∙
-          elim (cases_lt long (length xs - from)) [
-            | inl k ↦ ap (λ n. take n (drop from xs)) (omega arith)
-            | inr k ↦ take_all l (drop from xs) (omega (arith, length-drop from xs)) ∙ sym (take_all long (drop from xs) (omega (arith, length-drop from xs)))
-          ]
-      | inr h ↦
-          let short : drop s xs ≡ [] = drop_all s xs (omega arith) in
-          let long-one : drop from xs ≡ [] = drop_all from xs h in
-          ap (take l) short ∙ take_all l [] (omega arith) ∙ sym (ap (take long) long-one ∙ take_all long [] (omega arith))
-    ]
-
-pub part_kinds : {L B : Type 0} (ts : List (Record L B)) (ls : List Entry) (n sum s l k : ℕ) → length ts < 2 ^ 64 → sum ≡ min (start ls n) (2 ^ 64 - 1) → s ≡ min sum (length ts) → l ≡ min (at ls n).length (length ts - s) → k ≡ l →
-    kinds_of (take k (drop s ts)) ≡ kinds_in (kinds_of ts) ls n
-part_kinds ts ls n sum s l k small e es el ek =
-    ap kinds_of (clipped ts (start ls n) (at ls n).length s k (omega arith) (omega arith)) ∙
-    sym (ap (take (at ls n).length) (drop-map (λ x. x.kind) (start ls n) ts) ∙ take-map (λ x. x.kind) (at ls n).length (drop (start ls n) ts))
-
--- two lines, where both are there and where one is not
-module _ (ks : List ℕ) (ls : List Entry) (a b : ℕ) where
-  pub both_there : (xs ys : List ℕ) (r : Bool) → a < length ls → b < length ls → xs ≡ kinds_in ks ls a → ys ≡ kinds_in ks ls b → r ≡ same xs ys → Some r ≡ alike_in ks ls a b
-  unfolding alike_in
-  both_there xs ys r ha hb ea eb e =
-      ap Some (e ∙ ap₂ same ea eb) ∙ sym (cond-true (ltb a (length ls) && ltb b (length ls)) _ _ (and_from _ _ (lt-ltb _ _ ha) (lt-ltb _ _ hb)))
-
-  pub not_there : (length ls ≤ a) ⊎ (length ls ≤ b) → None ≡ alike_in ks ls a b
-  unfolding alike_in
-  not_there (inl h) = sym (cond-false (ltb a (length ls) && ltb b (length ls)) _ _ (and_left _ _ (le-ltb _ _ h)))
-  not_there (inr h) = sym (cond-false (ltb a (length ls) && ltb b (length ls)) _ _ (and_right (ltb a (length ls)) _ (le-ltb _ _ h)))
+-- the kinds of a line's tokens, as many of them as there are
+pub part_kinds : (ts ls : List Entry) (n sum s l : ℕ) → length ts < 2 ^ 64 → sum ≡ min (start ls n) (2 ^ 64 - 1) → s ≡ min sum (length ts) → l ≡ min (at ls n).length (length ts - s) → kinds_of (take l (take (length ts - s) (drop s ts))) ≡ kinds_in (kinds_of ts) ls n
+part_kinds ts ls n sum s l small e es el =
+    let same : take l (take (length ts - s) (drop s ts)) ≡ take (at ls n).length (drop (start ls n) ts) = grind (arith, common_steps) in
+    ap kinds_of same ∙ sym (ap (take (at ls n).length) (drop-map (λ x. x.kind) (start ls n) ts) ∙ take-map (λ x. x.kind) (at ls n).length (drop (start ls n) ts))

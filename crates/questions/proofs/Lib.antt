@@ -1,6 +1,3 @@
-pub mod Facts
 mod Within
-mod Sums
-mod Stamps
-mod Compared
 mod Copied
+mod Compared

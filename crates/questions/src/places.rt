@@ -1,27 +1,25 @@
 // The token that a place lies in.
 ghost use Rattle.std.specs.Prelude.{◌≡◌};
-ghost use Rattle.std.specs.Option.{option_map};
-ghost use Rattle.scanner.specs.Numbers.{numbered};
 ghost use Rattle.requests.specs.Sheets.{where_in};
 
-use counts::{ByteCount, TokenCount};
+use counts::{ByteCount, Count, TokenCount};
 use scanner::Token;
 
 // The number of the token that the place lies in, and the offset there. At the end of the text that is the last token and 0; beyond it none.
-// Stops at the token that holds the place, so that no sum of lengths passes it.
+#[tactic(auto, using(std::proofs::lemmas::Grind::common_steps, reading::proofs::Lists::start_more, reading::proofs::Split::start_zero))]
 pub fn find(tokens: &[Token], place: ByteCount) -> Option<(TokenCount, ByteCount)>
-    ensures { option_map (λ w. (w.0.0, w.1.0)) result ≡ where_in (numbered (λ c. c.0) (λ c. c.0) tokens.now) place.0 }
+    ensures { result ≡ where_in tokens.now place }
 {
-    let mut start = 0;
+    let mut offset = place.get();
     for (number, token) in tokens.iter().enumerate() {
-        let offset = place.0 - start;
-        if offset < token.length.0 {
-            return Some((TokenCount(number), ByteCount(offset)));
+        let length = token.length.get();
+        if offset < length {
+            return Some((Count::of(number), Count::of(offset)));
         }
-        start += token.length.0;
+        offset -= length;
     }
-    if start == place.0 && !tokens.is_empty() {
-        Some((TokenCount(tokens.len() - 1), ByteCount(0)))
+    if offset == 0 && !tokens.is_empty() {
+        Some((Count::of(tokens.len() - 1), Count::of(0)))
     } else {
         None
     }

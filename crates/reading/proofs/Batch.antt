@@ -65,9 +65,9 @@ unfolding batch
 looks_back t b xs = looks_back_listed (read t 0 0 xs) (λ j h. read_reads t b 0 0 xs j b.some_mode h)
 
 -- it is the reading, with the lookbacks given
-pub batch_is : (t : Tables) (xs : List ℕ) (es : List Entry) → es ≡ read t 0 0 xs → batch t xs ≡ listed es es 0
+pub batch_is : (t : Tables) (xs : List ℕ) (fs : List Entry) → fs ≡ read t 0 0 xs → batch t xs ≡ listed fs fs 0
 unfolding batch
-batch_is t xs es e = ap (λ l. listed l l 0) (sym e)
+batch_is t xs fs e = ap (λ l. listed l l 0) (sym e)
 
 -- it has at most one entry more than the text has symbols
 pub batch_length : (t : Tables) (xs : List ℕ) → length (batch t xs) ≤ length xs + 1

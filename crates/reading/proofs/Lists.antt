@@ -1,5 +1,6 @@
 -- Lists of entries: the reading of a text entry by entry, and what giving the lookbacks leaves.
-use Rattle.std.proofs.Common.{◌≡◌, ℕ, zero, suc, pred, ◌+◌, ◌-◌, ◌<◌, ◌≤◌, List, [], ◌∷◌, ◌++◌, length, get_or, drop, sym, refl, ap, ◌∙◌, subst, ap₂, le_of_suc-le-suc, add-zero, add_comm, add-one, arith, drop-drop}
+use Rattle.std.proofs.Common.{◌≡◌, ℕ, zero, suc, pred, ◌+◌, ◌-◌, ◌<◌, ◌≤◌, List, [], ◌∷◌, ◌++◌, length, drop, sym, refl, ap, ◌∙◌, subst, ap₂, le_of_suc-le-suc, add-zero, add_comm, add-one, arith, drop-drop}
+use Rattle.std.proofs.Math.Seq.{drop-nil}
 use Rattle.std.proofs.lemmas.List.{append_assoc, length-drop, get_or-drop}
 use Rattle.books.specs.Tables.{Tables}
 use Rattle.books.specs.Sound.{Sound}
@@ -7,14 +8,10 @@ use Rattle.reading.specs.Reading.{Entry, entry, token, read, start, none, at, ki
 use Rattle.reading.specs.Laws.{mode_before, total_length}
 use Rattle.reading.proofs.Token.{token_some, token_within, token_mode, token_reads}
 
-drop_none : {A : Type 0} (k : ℕ) → drop {A = A} k [] ≡ []
-drop_none zero = refl
-drop_none (suc k) = refl
-
 -- a reading that skips k symbols is one of the text after them
 pub read_skip : (t : Tables) (m k : ℕ) (xs : List ℕ) → read t m k xs ≡ read t m 0 (drop k xs)
 unfolding read
-read_skip t m k [] = ap (read t m 0) (sym (drop_none k))
+read_skip t m k [] = ap (read t m 0) (sym (drop-nil k))
 read_skip t m zero (x ∷ xs) = refl
 read_skip t m (suc k) (x ∷ xs) = read_skip t m k xs
 
@@ -91,14 +88,14 @@ pub mode_from_before : (es : List Entry) (j : ℕ) → mode_from 0 es j ≡ mode
 mode_from_before es zero = refl
 mode_from_before es (suc j) = refl
 
-start_first : (es : List Entry) → start es 0 ≡ 0
-start_first [] = refl
-start_first (e ∷ es) = refl
+pub start_zero : (es : List Entry) → start es 0 ≡ 0
+start_zero [] = refl
+start_zero (e ∷ es) = refl
 
 -- from entry j on, the list is the reading of the text from its start on, in its mode
 pub suffix : (t : Tables) (m : ℕ) (xs : List ℕ) (j : ℕ) → j < length (read t m 0 xs) →
     drop j (read t m 0 xs) ≡ read t (mode_from m (read t m 0 xs) j) 0 (drop (start (read t m 0 xs) j) xs)
-suffix t m xs zero h = ap (λ n. read t m 0 (drop n xs)) (sym (start_first (read t m 0 xs)))
+suffix t m xs zero h = ap (λ n. read t m 0 (drop n xs)) (sym (start_zero (read t m 0 xs)))
 suffix t m xs (suc j) h =
     let e = token t m xs in
     let rest = read t e.mode 0 (drop e.length xs) in
@@ -152,7 +149,7 @@ read_reads t b m (suc k) (x ∷ xs) j h l = read_reads t b m k xs j h l
 -- where entries start
 pub start_step : (es : List Entry) (j : ℕ) → start es (suc j) ≡ start es j + (at es j).length
 start_step [] j = refl
-start_step (e ∷ es) zero = ap (λ n. e.length + n) (start_first es) ∙ add_comm e.length 0
+start_step (e ∷ es) zero = ap (λ n. e.length + n) (start_zero es) ∙ add_comm e.length 0
 start_step (e ∷ es) (suc j) = omega (arith, start_step es j)
 
 pub start_more : (es : List Entry) (j : ℕ) → start es (j + 1) ≡ start es j + (at es j).length
@@ -185,9 +182,3 @@ pub length_kinds : (es : List Entry) → length (kinds es) ≡ length es - 1
 length_kinds [] = refl
 length_kinds (e ∷ []) = refl
 length_kinds (e ∷ f ∷ es) = omega (arith, length_kinds (f ∷ es))
-
-pub getD_kinds : (es : List Entry) (j d : ℕ) → suc j < length es → get_or (kinds es) j d ≡ (at es j).kind
-getD_kinds [] j d h = absurd (omega arith)
-getD_kinds (e ∷ []) j d h = absurd (omega arith)
-getD_kinds (e ∷ f ∷ es) zero d h = refl
-getD_kinds (e ∷ f ∷ es) (suc j) d h = getD_kinds (f ∷ es) j d (omega arith)

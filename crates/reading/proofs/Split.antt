@@ -5,10 +5,7 @@ use Rattle.reading.specs.Reading.{Entry, start, none, at, reach, lookback}
 use Rattle.reading.specs.Laws.{mode_before, total_length}
 use Rattle.reading.proofs.Greatest.{greatest_same}
 use Rattle.reading.proofs.Lists.{mode_from, mode_from_next}
-
-pub start_zero : (es : List Entry) → start es 0 ≡ 0
-start_zero [] = refl
-start_zero (e ∷ es) = refl
+pub use Rattle.reading.proofs.Lists.{start_zero}
 
 -- the entries of the second part, after those of the first
 pub at_add : (es fs : List Entry) (j : ℕ) → at (es ++ fs) (length es + j) ≡ at fs j

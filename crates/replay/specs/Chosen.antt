@@ -5,6 +5,7 @@ use Rattle.books.specs.declared.fault.BookFault.{BookFault}
 use Rattle.books.specs.Check.{Plan, fault, first}
 use Rattle.books.specs.Meaning.{tables}
 use Rattle.books.specs.Tables.{Tables}
+use Rattle.house_sheet.specs.declared.Books.{Books}
 
 -- the book of one plan, or its fault
 abbrev pub Chosen : Option Plan → Book → Result Book BookFault → Type 0
@@ -20,11 +21,11 @@ chosen_tables None house = house
 chosen_tables (Some p) house = p.tables
 
 -- both books, where neither plan has a fault; the token book's fault comes before the line book's
-abbrev pub BothChosen : Option Plan → Tables → Option Plan → Tables → Result (Book × Book) BookFault → Type 0
+abbrev pub BothChosen : Option Plan → Tables → Option Plan → Tables → Result Books BookFault → Type 0
 BothChosen t token_house l line_house r =
     MatchResult r
     (λ b.
     (first (chosen_fault t) (chosen_fault l) ≡ None)
-    × (tables b.0 ≡ chosen_tables t token_house)
-    × (tables b.1 ≡ chosen_tables l line_house))
+    × (tables b.tokens ≡ chosen_tables t token_house)
+    × (tables b.lines ≡ chosen_tables l line_house))
     (λ f. first (chosen_fault t) (chosen_fault l) ≡ Some f)

@@ -24,14 +24,9 @@ pub(crate) struct Ending {
 fn bytes_of<S: TextStore>(heap: Global, store: &S) -> Result<Vec<u8>, AllocError>
     ensures { IfOk result (λ v. v.items ≡ S.TextStore.text store.now) }
 {
-    let mut bytes = Vec::new(heap);
-    for i in 0..store.len().0 {
-        let Some(byte) = store.byte_at(ByteCount(i)) else {
-            unreachable()
-        };
-        bytes.push(byte)?;
-    }
-    Ok(bytes)
+    (0..store.len().get())
+        .filter_map(|place| store.byte_at(ByteCount::of(place)))
+        .collect(heap)
 }
 
 pub(crate) fn closing<S: TextStore + Drop>(
@@ -46,11 +41,9 @@ pub(crate) fn closing<S: TextStore + Drop>(
 {
     let tokens = tabulate(heap, sheet.token_list())?;
     let lines = tabulate(heap, sheet.line_list())?;
-    let parts = sheet.into_parts();
-    let bytes = bytes_of(heap, &parts.store)?;
-    let text = text_line(heap, bytes.as_slice())?;
+    let bytes = bytes_of(heap, &sheet.into_parts().store)?;
     Ok(Ending {
-        text,
+        text: text_line(heap, bytes.as_slice())?,
         tokens,
         lines,
     })

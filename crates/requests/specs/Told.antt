@@ -6,8 +6,8 @@ use Rattle.requests.specs.declared.faults.SheetFault.TheVariants.{Store, Capacit
 
 abbrev pub told : SheetFault → Refusal
 told (Store f) = store.told f
-told (Capacity c) = record { layer = 3; number = 8; detail = c.0 }
-told (TokenMemory n) = record { layer = 3; number = 9; detail = n.0 }
-told (LineMemory n) = record { layer = 3; number = 10; detail = n.0 }
-told (NoToken n) = record { layer = 3; number = 14; detail = n.0 }
-told (ShortBuffer n) = record { layer = 3; number = 15; detail = n.0 }
+told (Capacity c) = record { layer = 3; number = 8; detail = c }
+told (TokenMemory n) = record { layer = 3; number = 9; detail = n }
+told (LineMemory n) = record { layer = 3; number = 10; detail = n }
+told (NoToken n) = record { layer = 3; number = 14; detail = n }
+told (ShortBuffer n) = record { layer = 3; number = 15; detail = n }

@@ -1,13 +1,25 @@
+// The answers to requests.
 use crate::faults::SheetFault;
 use correction::Report;
-use counts::{ByteCount, LineCount, TokenCount};
+use counts::{ByteCount, Lines, TokenCount, Tokens};
 use scanner::{Line, Token};
+use std::marker::Model;
 
-// What a taken correction reports.
+// What a taken correction reports. A contract sees it as the reports of the definitions.
 #[derive(Clone, Copy)]
 pub struct Reports {
-    pub tokens: Report<TokenCount>,
-    pub lines: Report<LineCount>,
+    pub tokens: Report<Tokens>,
+    pub lines: Report<Lines>,
+}
+
+impl Model for Reports {
+    ghost use Rattle.requests.specs.Asked.{Reports as Meant};
+
+    ghost Value = { Meant };
+
+    ghost view = { λ r. record { tokens = r.tokens; lines = r.lines } };
+
+    ghost inverse = { λ r. record { tokens = r.tokens; lines = r.lines } };
 }
 
 // The answer to a request, one case for each kind of request.

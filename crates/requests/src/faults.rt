@@ -1,3 +1,4 @@
+// The refusals of a sheet, and how they are told.
 ghost use Rattle.std.specs.Prelude.{◌≡◌};
 ghost use Rattle.requests.specs.declared.faults.SheetFault.TheVariants.{Store};
 ghost use Rattle.requests.specs.Told.{told};
@@ -11,9 +12,9 @@ pub enum SheetFault {
     Store(StoreFault),
     // the capacity is above 65535
     Capacity(ByteCount),
-    // the token memory has not capacity + 1 records, but this many
+    // the token memory has fewer than capacity + 1 records: this many
     TokenMemory(TokenCount),
-    // the line memory has not capacity + 1 records, but this many
+    // the line memory has fewer than capacity + 1 records: this many
     LineMemory(LineCount),
     // there is no token of this number
     NoToken(TokenCount),
@@ -29,18 +30,18 @@ impl From<StoreFault> for SheetFault {
     }
 }
 
-impl SheetFault {
-    // The fault as it is told: the layer, the number of the question, and the detail.
-    pub fn refusal(self) -> Refusal
-        ensures { result ≡ told self }
-    {
-        let (number, detail) = match self {
-            SheetFault::Store(fault) => return fault.refusal(),
-            SheetFault::Capacity(capacity) => (8, capacity.0),
-            SheetFault::TokenMemory(records) => (9, records.0),
-            SheetFault::LineMemory(records) => (10, records.0),
-            SheetFault::NoToken(token) => (14, token.0),
-            SheetFault::ShortBuffer(length) => (15, length.0),
+// The fault as it is told: the layer, the number of the question, and the detail.
+impl From<SheetFault> for Refusal {
+    ghost from_gives = { λ f r. r ≡ told f };
+
+    fn from(fault: SheetFault) -> Refusal {
+        let (number, detail) = match fault {
+            SheetFault::Store(fault) => return Refusal::from(fault),
+            SheetFault::Capacity(capacity) => (8, capacity.get()),
+            SheetFault::TokenMemory(records) => (9, records.get()),
+            SheetFault::LineMemory(records) => (10, records.get()),
+            SheetFault::NoToken(token) => (14, token.get()),
+            SheetFault::ShortBuffer(length) => (15, length.get()),
         };
         Refusal {
             layer: 3,

@@ -1,3 +1,4 @@
+// The requests to a sheet.
 use counts::{ByteCount, LineCount, TokenCount};
 
 // One request to a sheet.

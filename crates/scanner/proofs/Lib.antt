@@ -1,6 +1,6 @@
 pub mod Starts
+pub mod Pointing
 pub mod Alike
 pub mod Steps
-pub mod Codes
 pub mod Written
 pub mod Whole

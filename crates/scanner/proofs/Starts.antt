@@ -1,23 +1,20 @@
--- Records as entries, and where entries start.
-use Rattle.std.proofs.Common.{◌≡◌, ℕ, ◌+◌, ◌<◌, List, [], ◌∷◌, length, get_or, sym, refl, ap, ◌∙◌, add-one}
-use Rattle.std.proofs.lemmas.List.{get_or-map}
-use Rattle.reading.specs.Reading.{Entry as Entryᴿ, start, at, none}
-use Rattle.reading.proofs.Lists.{start_step}
-use Rattle.scanner.specs.declared.entries.Entry.{Entry}
-use Rattle.scanner.specs.Numbers.{numbers, numbered}
+-- Where entries start, and sums that stop growing at the greatest number of 64 bits, where the list's own fit.
+use Rattle.std.proofs.Common.{◌≡◌, ℕ, ◌+◌, ◌-◌, ◌^◌, ◌<◌, min, List, length, get_or, take, drop, sym, ◌∙◌, arith}
+use Rattle.std.proofs.lemmas.List.{get_or_read, get_or-take, get_or-drop, length-take}
+use Rattle.reading.specs.Reading.{Entry, none, start, at, reach}
+use Rattle.reading.proofs.Lists.{start_more}
+use Rattle.scanner.specs.Spots.{Fit}
 
--- what stands in a list of records, as an entry
-pub numbered_at : {L B : Type 0} (l : L → ℕ) (b : B → ℕ) (es : List (Entry L B)) (i : ℕ) (d : Entry L B) → i < length es → at (numbered l b es) i ≡ numbers l b (get_or es i d)
-numbered_at l b es i d h = get_or-map (numbers l b) es i d none h
+module _ (es : List Entry) (fit : Fit es) (j here : ℕ) (stands : here ≡ start es j) where
+  -- where the next entry starts
+  pub sum_start : (long sum : ℕ) → (at es j).length ≡ long → sum ≡ min (here + long) (2 ^ 64 - 1) → sum ≡ start es (j + 1)
+  sum_start long sum e s = omega (arith, start_more es j, fit (j + 1))
 
-pub start_none : (es : List Entryᴿ) → start es 0 ≡ 0
-start_none [] = refl
-start_none (e ∷ es) = refl
+  -- where this one's reading ends
+  pub sum_reach : (read sum : ℕ) → (at es j).reading ≡ read → sum ≡ min (here + read) (2 ^ 64 - 1) → sum ≡ reach es j
+  sum_reach read sum e s = omega (arith, fit j)
 
--- the next entry starts where this one ends
-pub start_more : (es : List Entryᴿ) (i : ℕ) → start es (i + 1) ≡ start es i + (at es i).length
-start_more es i = ap (start es) (add-one i) ∙ start_step es i
-
--- a start that is known by other names
-pub start_is : (es : List Entryᴿ) (i j m n : ℕ) → m ≡ n → n ≡ start es i → j ≡ i → m ≡ start es j
-start_is es i j m n e f k = e ∙ f ∙ ap (start es) (sym k)
+-- what stands in a part of a list
+pub at_part : (es : List Entry) (from to k : ℕ) (x : Entry) → k < length (take (to - from) (drop from es)) → x ≡ get_or (take (to - from) (drop from es)) k x → at es (from + k) ≡ x
+at_part es from to k x h e =
+    sym (get_or_read (take (to - from) (drop from es)) k x h e none ∙ get_or-take (to - from) (drop from es) k none (omega (arith, length-take (to - from) (drop from es))) ∙ get_or-drop from es k none)

@@ -1,36 +1,28 @@
 -- Batch reading into memory, in progress.
-use Rattle.std.proofs.Common.{◌≡◌, ℕ, suc, ◌+◌, ◌<◌, ◌≤◌, List, [], ◌∷◌, ◌++◌, length, take, drop, set, sym, refl, ap, ◌∙◌, ap₂, inl, inr, arith}
-use Rattle.std.proofs.lemmas.List.{length-drop, take_more_set, drop-set-lt, drop-drop, map_push, get_or_past}
+use Rattle.std.proofs.Common.{◌≡◌, ℕ, suc, ◌+◌, ◌<◌, ◌≤◌, List, [], ◌∷◌, ◌++◌, length, take, drop, set, sym, ap, ◌∙◌, ap₂, inl, inr, arith}
+use Rattle.std.proofs.lemmas.List.{length-drop, take_more_set, drop-set-lt, drop-drop, get_or_past}
 use Rattle.std.proofs.lemmas.Bool.{cases_order}
 use Rattle.books.specs.Tables.{Tables}
-use Rattle.reading.specs.Reading.{entry, token, read, start, reach, none}
+use Rattle.reading.specs.Reading.{Entry, entry, token, read, start, reach, none}
 use Rattle.reading.specs.Laws.{total_length}
 use Rattle.reading.proofs.Lists.{read_push, read_last, read_adds_up, read_each, read_end, mode_from, start_within}
 use Rattle.reading.proofs.Token.{token_some, token_within, token_reading_within}
-use Rattle.scanner.specs.declared.entries.Entry.{Entry as Record}
-use Rattle.scanner.specs.Numbers.{numbers, numbered}
 
 -- past a written record nothing has changed
 pub left : {A : Type 0} (memory now : List A) (n : ℕ) (e : A) → drop n now ≡ drop n memory → drop (n + 1) (set now n e) ≡ drop (n + 1) memory
 left memory now n e r = drop-set-lt (n + 1) now n e (omega arith) ∙ sym (drop-drop 1 n now) ∙ ap (drop 1) r ∙ drop-drop 1 n memory
 
-module _ {L B : Type 0} (l : L → ℕ) (b : B → ℕ) (t : Tables) (codes : List ℕ) (memory : List (Record L B)) where
+module _ (t : Tables) (codes : List ℕ) (memory : List Entry) where
   -- the first n records are the entries up to `place`, after which the mode is `mode`; the others are as they were
-  pub record Writing (now : List (Record L B)) (place mode n : ℕ) : Type 0 where
+  pub record Writing (now : List Entry) (place mode n : ℕ) : Type 0 where
     pub within : place ≤ length codes
     pub few : n ≤ place
-    pub comes : numbered l b (take n now) ++ read t mode 0 (drop place codes) ≡ read t 0 0 codes
+    pub comes : take n now ++ read t mode 0 (drop place codes) ≡ read t 0 0 codes
     pub rest : drop n now ≡ drop n memory
 
-  pub writing_none : Writing memory 0 0 0
-  writing_none = record { within = omega arith; few = omega arith; comes = refl; rest = refl }
-
-  taken : (now : List (Record L B)) (n : ℕ) (e : Record L B) → n < length now → numbered l b (take (n + 1) (set now n e)) ≡ numbered l b (take n now) ++ numbers l b e ∷ []
-  taken now n e h = ap (numbered l b) (take_more_set now n e h) ∙ map_push (numbers l b) (take n now) e
-
   -- the token e that was read at `spot`, which is `place`
-  module _ (place mode spot : ℕ) (some : place < length codes) (here : spot ≡ place) (e : Record L B) (long : ℕ) (size : long ≡ l e.length) (is : numbers l b e ≡ token t mode (drop spot codes)) where
-    is_here : numbers l b e ≡ token t mode (drop place codes)
+  module _ (place mode spot : ℕ) (some : place < length codes) (here : spot ≡ place) (e : Entry) (long : ℕ) (size : long ≡ e.length) (is : e ≡ token t mode (drop spot codes)) where
+    is_here : e ≡ token t mode (drop place codes)
     is_here = is ∙ ap (λ n. token t mode (drop n codes)) here
 
     extent : long ≡ (token t mode (drop place codes)).length
@@ -42,22 +34,22 @@ module _ {L B : Type 0} (l : L → ℕ) (b : B → ℕ) (t : Tables) (codes : Li
         let left : 0 < length xs = omega (arith, length-drop place codes) in
         (omega (arith, extent, token_some t mode xs), omega (arith, extent, length-drop place codes, token_within t mode xs left))
 
-    pub writing_more : (now : List (Record L B)) (n : ℕ) → Writing now place mode n → n < length now → Writing (set now n e) (place + long) e.mode (n + 1)
-    writing_more now n h room =
+    pub writing_more : (now : List Entry) (n next : ℕ) → Writing now place mode n → n < length now → next ≡ e.mode → Writing (set now n e) (place + long) next (n + 1)
+    writing_more now n next h room onward =
         record {
           within = token_sized.1;
           few = omega (arith, h.few, token_sized.0);
           comes =
-              ap₂ ◌++◌ (taken now n e room ∙ ap (λ x. numbered l b (take n now) ++ x ∷ []) is_here) (ap₂ (λ m k. read t m 0 (drop (place + k) codes)) (ap (λ x. x.mode) is_here) extent)
-              ∙ read_push t mode place codes (numbered l b (take n now)) (read t 0 0 codes) some h.comes;
+              ap₂ ◌++◌ (take_more_set now n e room ∙ ap (λ x. take n now ++ x ∷ []) is_here) (ap₂ (λ m k. read t m 0 (drop (place + k) codes)) (onward ∙ ap (λ x. x.mode) is_here) extent)
+              ∙ read_push t mode place codes (take n now) (read t 0 0 codes) some h.comes;
           rest = left memory now n e h.rest;
         }
 
-  pub writing_all : (now : List (Record L B)) (place mode n : ℕ) → Writing now place mode n → length codes ≤ place → n < length now →
-      (e : Record L B) → numbers l b e ≡ entry 1 0 1 mode 0 → numbered l b (take (n + 1) (set now n e)) ≡ read t 0 0 codes
+  pub writing_all : (now : List Entry) (place mode n : ℕ) → Writing now place mode n → length codes ≤ place → n < length now →
+      (e : Entry) → e ≡ entry 1 0 1 mode 0 → take (n + 1) (set now n e) ≡ read t 0 0 codes
   writing_all now place mode n h end room e is =
-      taken now n e room ∙ ap (λ x. numbered l b (take n now) ++ x ∷ []) is
-      ∙ read_last t mode place codes (numbered l b (take n now)) (read t 0 0 codes) end h.comes
+      take_more_set now n e room ∙ ap (λ x. take n now ++ x ∷ []) is
+      ∙ read_last t mode place codes (take n now) (read t 0 0 codes) end h.comes
 
 -- what an entry of a batch reading reads ends at the end of the text, which counts as one symbol, at the latest
 pub reach_within : (t : Tables) (xs : List ℕ) (j : ℕ) → reach (read t 0 0 xs) j ≤ length xs + 1

@@ -10,5 +10,5 @@ mod symbols;
 pub use entries::{Entry, Line, Token};
 pub use lists::read_all;
 pub use lookbacks::{Spot, advance, set_lookbacks};
-pub use scans::scan;
+pub use scans::Scanner;
 pub use symbols::{Kinds, StoreBytes, Symbols};

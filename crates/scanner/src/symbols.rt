@@ -4,23 +4,23 @@ ghost use Rattle.std.specs.List.{slice_get};
 ghost use Rattle.scanner.specs.Numbers.{kinds_of};
 
 use crate::entries::Token;
-use counts::{ByteCount, Count, TokenCount};
+use counts::{ByteCount, Bytes, Count, TokenCount, Tokens};
 use text::TextStore;
 
 // A string of symbols, known by their codes.
 pub trait Symbols {
-    // the count of these symbols
-    type Place: Count;
+    // what these symbols are counted in
+    type Unit: Copy;
 
     ghost codes: { Self → List ℕ };
 
     // How many symbols there are.
-    fn count(&self) -> Self::Place
-        ensures { Self.Place.Count.number result ≡ length (codes self.now) };
+    fn count(&self) -> Count<Self::Unit>
+        ensures { result ≡ length (codes self.now) };
 
     // The code at a place, or none at the end and beyond.
-    fn code_at(&self, place: Self::Place) -> Option<u8>
-        ensures { result ≡ slice_get (codes self.now) (Self.Place.Count.number place) };
+    fn code_at(&self, place: Count<Self::Unit>) -> Option<u8>
+        ensures { result ≡ slice_get (codes self.now) place };
 }
 
 // The bytes of a text store: a byte's code is the byte.
@@ -28,7 +28,7 @@ pub trait Symbols {
 pub struct StoreBytes<'a, S>(pub &'a S);
 
 impl<'a, S: TextStore> Symbols for StoreBytes<'a, S> {
-    type Place = ByteCount;
+    type Unit = Bytes;
 
     ghost codes = { λ s. S.TextStore.text s.0.now };
 
@@ -36,7 +36,9 @@ impl<'a, S: TextStore> Symbols for StoreBytes<'a, S> {
         self.0.len()
     }
 
-    fn code_at(&self, place: ByteCount) -> Option<u8> {
+    fn code_at(&self, place: ByteCount) -> Option<u8>
+        ensures { result ≡ slice_get (S.TextStore.text self.now.0.now) place }
+    {
         self.0.byte_at(place)
     }
 }
@@ -46,19 +48,17 @@ impl<'a, S: TextStore> Symbols for StoreBytes<'a, S> {
 pub struct Kinds<'a>(pub &'a [Token]);
 
 impl<'a> Symbols for Kinds<'a> {
-    type Place = TokenCount;
+    type Unit = Tokens;
 
     ghost codes = { λ s. kinds_of s.0.now };
 
     fn count(&self) -> TokenCount {
-        TokenCount(self.0.len())
+        Count::of(self.0.len())
     }
 
-    fn code_at(&self, place: TokenCount) -> Option<u8> {
-        if place.0 < self.0.len() {
-            Some(self.0[place.0].kind)
-        } else {
-            None
-        }
+    fn code_at(&self, place: TokenCount) -> Option<u8>
+        ensures { result ≡ slice_get (kinds_of self.now.0.now) place }
+    {
+        self.0.get(place.get()).map(|token| token.kind)
     }
 }

@@ -13,7 +13,7 @@ use Rattle.script.specs.declared.scripts.StoreKind.TheVariants.{Flat, Gap}
 use Rattle.script.specs.declared.wrong.Wrong.{Wrong}
 use Rattle.script.specs.declared.wrong.Wrong.TheVariants.{Number, TooLarge, OverLimit, Table}
 use Rattle.script.specs.Commands.{Instruction, store, opening_text, memory, token_book, line_book, ask, kind_of, store_in, plan_in, one_in, asking, command_of}
-use Rattle.script.specs.Fields.{front, onward, field, grown, digits, number_of, onto, pairs, table_of, number_in, size_in, table_in, text_in, at_end}
+use Rattle.script.specs.Fields.{front, onward, field, grown, digits, number_of, onto, pairs, table_of, number_in, size_of, size_in, table_in, text_in, at_end}
 use Rattle.script.specs.Laws.{number_out, text_out, hexes, table_out, kind_out, plan_out, request_out, Bytes, SayablePlan, SayableRequest, LinesReadBack}
 use Rattle.script.specs.Steps.{on}
 use Rattle.script.proofs.Back.{pair_chars, quoted_back}
@@ -101,8 +101,8 @@ number_back n t h e =
 
 size_back : (n : ℕ) (t : List ℕ) → n ≤ 1000000 → Ends t → size_in (number_out n t) ≡ Ok (n, t)
 size_back n t h e =
-    ap (λ d. on d (λ a. cond (leb a.0 1000000) (Ok a) (Err OverLimit))) (number_back n t (omega arith) e)
-    ∙ cond-true (leb n 1000000) (Ok (n, t)) (Err OverLimit) (le-leb n 1000000 h)
+    ap (λ d. on d (λ a. on (size_of a.0) (λ m. Ok (m, a.1)))) (number_back n t (omega arith) e)
+    ∙ ap (λ d. on d (λ m. Ok (m, t))) (cond-true (leb n 1000000) (Ok n) (Err OverLimit) (le-leb n 1000000 h))
 
 -- tables
 hex_solid : (d : ℕ) → d < 16 → digit_char d ≡ 32 → ⊥

@@ -1,43 +1,35 @@
--- Bytes up to the first that is another one: what is known after one more.
-use Rattle.std.proofs.Common.{◌≡◌, ℕ, ◌+◌, ◌<◌, ◌≤◌, cond, eqb, List, [], ◌∷◌, ◌++◌, length, get_or, take, drop, sym, ap, ◌∙◌, append_assoc}
-use Rattle.std.proofs.lemmas.List.{at_drop_more, at_drop_all, append-nil, take_more, take_all}
-use Rattle.std.proofs.lemmas.Bool.{cond-true, cond-false, eq-eqb, ne_eqb}
+-- Bytes up to the first that is another one.
+use Rattle.std.proofs.Common.{◌≡◌, ℕ, ◌+◌, ◌∙◌, Bool, true, false, cond, not, eqb, List, [], ◌∷◌, length, take, drop, unwrap_or, refl, ap, arith}
+use Rattle.std.specs.List.{position, position_or_len}
+use Rattle.std.proofs.lemmas.Grind.{common_steps}
+use Rattle.std.proofs.lemmas.List.Sums.{prefix_len-le-length}
 use Rattle.script.specs.Fields.{front, onward}
 
-module _ (e : ℕ) (bs : List ℕ) (i : ℕ) where
-  pub front_more : i < length bs → (get_or bs i 0 ≡ e → ⊥) → front e bs ≡ take i bs ++ front e (drop i bs) → front e bs ≡ take (i + 1) bs ++ front e (drop (i + 1) bs)
-  front_more h n inv =
-      let b = get_or bs i 0 in
-      let more = front e (drop (i + 1) bs) in
-      let one : front e (drop i bs) ≡ cond (eqb b e) [] (b ∷ more) = at_drop_more (front e) bs i 0 h in
-      inv ∙ ap (λ xs. take i bs ++ xs) (one ∙ cond-false (eqb b e) [] (b ∷ more) (ne_eqb b e n))
-      ∙ sym (append_assoc (take i bs) (b ∷ []) more) ∙ ap (λ xs. xs ++ more) (sym (take_more bs i 0 h))
+-- the place of the first, or the length where there is none
+first_place : (e : ℕ) (bs : List ℕ) → unwrap_or (position (λ b. eqb b e) bs) (length bs) ≡ position_or_len (λ b. eqb b e) bs
+first_place e bs =
+    let within = prefix_len-le-length (λ b. not (eqb b e)) bs in
+    grind (arith, common_steps)
 
-  pub onward_more : i < length bs → (get_or bs i 0 ≡ e → ⊥) → onward e bs ≡ onward e (drop i bs) → onward e bs ≡ onward e (drop (i + 1) bs)
-  onward_more h n inv =
-      let b = get_or bs i 0 in
-      let more = drop (i + 1) bs in
-      let one : onward e (drop i bs) ≡ cond (eqb b e) (b ∷ more) (onward e more) = at_drop_more (onward e) bs i 0 h in
-      inv ∙ one ∙ cond-false (eqb b e) (b ∷ more) (onward e more) (ne_eqb b e n)
+front_step : (r : Bool) (n b : ℕ) (bs fs : List ℕ) → take n bs ≡ fs → take (cond (not r) (1 + n) 0) (b ∷ bs) ≡ cond r [] (b ∷ fs)
+front_step true n b bs fs h = refl
+front_step false n b bs fs h = grind (arith, common_steps)
 
-  pub front_here : i < length bs → get_or bs i 0 ≡ e → front e bs ≡ take i bs ++ front e (drop i bs) → take i bs ≡ front e bs
-  front_here h n inv =
-      let b = get_or bs i 0 in
-      let more = front e (drop (i + 1) bs) in
-      let one : front e (drop i bs) ≡ cond (eqb b e) [] (b ∷ more) = at_drop_more (front e) bs i 0 h in
-      sym (inv ∙ ap (λ xs. take i bs ++ xs) (one ∙ cond-true (eqb b e) [] (b ∷ more) (eq-eqb b e n)) ∙ append-nil (take i bs))
+onward_step : (r : Bool) (n b : ℕ) (bs fs : List ℕ) → drop n bs ≡ fs → drop (cond (not r) (1 + n) 0) (b ∷ bs) ≡ cond r (b ∷ bs) fs
+onward_step true n b bs fs h = refl
+onward_step false n b bs fs h = grind (arith, common_steps)
 
-  pub onward_here : i < length bs → get_or bs i 0 ≡ e → onward e bs ≡ onward e (drop i bs) → drop i bs ≡ onward e bs
-  onward_here h n inv =
-      let b = get_or bs i 0 in
-      let more = drop (i + 1) bs in
-      let one : onward e (drop i bs) ≡ cond (eqb b e) (b ∷ more) (onward e more) = at_drop_more (onward e) bs i 0 h in
-      let whole : drop i bs ≡ b ∷ more = at_drop_more (λ xs. xs) bs i 0 h in
-      whole ∙ sym (inv ∙ one ∙ cond-true (eqb b e) (b ∷ more) (onward e more) (eq-eqb b e n))
+front_at : (e : ℕ) (bs : List ℕ) → take (position_or_len (λ b. eqb b e) bs) bs ≡ front e bs
+front_at e [] = refl
+front_at e (b ∷ bs) = front_step (eqb b e) _ b bs (front e bs) (front_at e bs)
 
-  pub front_all : length bs ≤ i → front e bs ≡ take i bs ++ front e (drop i bs) → bs ≡ front e bs
-  front_all h inv =
-      sym (inv ∙ ap (λ xs. take i bs ++ xs) (at_drop_all (front e) bs i h) ∙ append-nil (take i bs) ∙ take_all i bs h)
+onward_at : (e : ℕ) (bs : List ℕ) → drop (position_or_len (λ b. eqb b e) bs) bs ≡ onward e bs
+onward_at e [] = refl
+onward_at e (b ∷ bs) = onward_step (eqb b e) _ b bs (onward e bs) (onward_at e bs)
 
-  pub onward_all : length bs ≤ i → onward e bs ≡ onward e (drop i bs) → onward e bs ≡ []
-  onward_all h inv = inv ∙ at_drop_all (onward e) bs i h
+module _ (e : ℕ) (bs : List ℕ) (n : ℕ) (h : n ≡ unwrap_or (position (λ b. eqb b e) bs) (length bs)) where
+  pub front_first : take n bs ≡ front e bs
+  front_first = ap (λ k. take k bs) (h ∙ first_place e bs) ∙ front_at e bs
+
+  pub onward_first : drop n bs ≡ onward e bs
+  onward_first = ap (λ k. drop k bs) (h ∙ first_place e bs) ∙ onward_at e bs

@@ -3,7 +3,6 @@ pub mod Fronts
 pub mod Digits
 pub mod Words
 pub mod Lines
-pub mod Small
 pub mod Back
 pub mod Again
 pub mod Rewritten

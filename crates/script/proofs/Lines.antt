@@ -1,13 +1,8 @@
 -- The lines of a script, one after the other.
-use Rattle.std.proofs.Common.{◌≡◌, ℕ, suc, ◌+◌, eqb, List, [], ◌∷◌, length, drop, Ok, Err, Result, sym, refl, ap, ◌∙◌, subst, inl, inr, arith}
+use Rattle.std.proofs.Common.{◌≡◌, ℕ, suc, ◌<◌, ◌≤◌, length-drop, eqb, List, [], ◌∷◌, length, drop, sym, refl, ap, ◌∙◌, subst, inl, inr, arith}
 use Rattle.std.proofs.lemmas.Bool.{cases_eq, cond-false, ne_eqb}
-use Rattle.script.specs.declared.wrong.Wrong.{Wrong}
-use Rattle.script.specs.declared.wrong.Stop.{Stop}
-use Rattle.script.specs.declared.wrong.Stop.TheVariants as stop
 use Rattle.script.specs.Fields.{front, onward}
-use Rattle.script.specs.Plain.{broken_at, Breaks}
-use Rattle.script.specs.Scripts.{onto_first, lines_of, Heard, line_in, at_line, told, written_out}
-use Rattle.script.specs.Steps.{Stopped}
+use Rattle.script.specs.Scripts.{onto_first, lines_of}
 
 -- a script's first line
 nonempty : (bs : List ℕ) → suc (length bs) ≡ 0 → ⊥
@@ -35,19 +30,10 @@ lines_first (b ∷ c ∷ bs) h =
       | inr n ↦ at_other b (c ∷ bs) n (ap (onto_first b) (lines_first (c ∷ bs) (λ z. absurd (nonempty bs z))))
     ]
 
-module _ (bs line after : List ℕ) (n : ℕ) (h : Heard) (some : length bs ≡ 0 → ⊥) (first : line ≡ front 10 bs) (rest : after ≡ drop 1 (onward 10 bs)) where
-  one_line : told n h (lines_of bs) ≡ at_line n (line_in h line) (λ k. told (n + 1) k (lines_of after))
-  one_line =
-      ap (told n h) (lines_first bs some)
-      ∙ ap (λ l. at_line n (line_in h l) (λ k. told (n + 1) k (lines_of (drop 1 (onward 10 bs))))) (sym first)
-      ∙ ap (λ xs. at_line n (line_in h line) (λ k. told (n + 1) k (lines_of xs))) (sym rest)
+-- what is behind the first line
+onward_within : (e : ℕ) (bs : List ℕ) → length (onward e bs) ≤ length bs
+onward_within e [] = omega arith
+onward_within e (b ∷ bs) = grind (arith, onward_within e bs)
 
-  pub line_taken : (k : Heard) → line_in h line ≡ Ok k → told n h (lines_of bs) ≡ told (n + 1) k (lines_of after)
-  line_taken k e = one_line ∙ ap (λ d. at_line n d (λ k. told (n + 1) k (lines_of after))) e
-
-  pub line_breaks : (w : Wrong) → line_in h line ≡ Err w → told n h (lines_of bs) ≡ Err (n, w)
-  line_breaks w e = one_line ∙ ap (λ d. at_line n d (λ k. told (n + 1) k (lines_of after))) e
-
-  pub stops : (whole : Result Heard (ℕ × Wrong)) (s : Stop) → whole ≡ told n h (lines_of bs) → Stopped (line_in h line) s → Breaks (written_out whole) (broken_at n s)
-  stops whole stop.NoMemory e k = tt
-  stops whole (stop.Wrong w) e k = ap written_out (e ∙ line_breaks w k)
+pub shorter : (bs : List ℕ) → (length bs ≡ 0 → ⊥) → length (drop 1 (onward 10 bs)) < length bs
+shorter bs some = grind (arith, length-drop {A = ℕ}, onward_within 10 bs)

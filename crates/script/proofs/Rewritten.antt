@@ -1,10 +1,10 @@
 -- A script that is written out is read as that script.
-use Rattle.std.proofs.Common.{◌≡◌, ℕ, suc, ◌+◌, ◌/◌, ◌%◌, ◌^◌, ◌<◌, Bool, true, not, ◌&&◌, eqb, leb, List, [], ◌∷◌, ◌++◌, map, length, Some, None, Ok, decimal, Option, sym, refl, ap, ◌∙◌, subst, inl, inr, append_assoc, arith}
+use Rattle.std.proofs.Common.{◌≡◌, ℕ, suc, ◌+◌, ◌/◌, ◌%◌, ◌^◌, ◌<◌, Bool, true, not, ◌&&◌, eqb, leb, List, [], ◌∷◌, ◌++◌, map, length, Some, None, Ok, decimal, Option, sym, refl, ap, ◌∙◌, append_assoc, arith}
 use Rattle.std.specs.List.{flat_map, AllByRecursion}
 use Rattle.std.specs.Char.{digit_char}
 use Rattle.std.proofs.lemmas.Fmt.{decimal_by_steps}
 use Rattle.std.proofs.lemmas.List.{append-nil}
-use Rattle.std.proofs.lemmas.Bool.{cases_eq, cond-false, cond_both, ne_eqb, and_parts, and_from, not-true, not_from_false}
+use Rattle.std.proofs.lemmas.Bool.{cond-false, cond_both, ne_eqb, and_parts, and_from, not-true, not_from_false}
 use Rattle.std.proofs.lemmas.Bool.Decides.{nat_tests}
 use Rattle.books.specs.Check.{Plan}
 use Rattle.requests.specs.Asked.{Asked, correct, token, line, where_is, time, copy, alike}
@@ -13,10 +13,10 @@ use Rattle.script.specs.declared.scripts.StoreKind.TheVariants.{Flat, Gap}
 use Rattle.script.specs.Commands.{Instruction, store, opening_text, memory, token_book, line_book, ask}
 use Rattle.script.specs.Laws.{number_out, text_out, hexes, table_out, plan_out, request_out, line_of, Bytes, SayablePlan, SayableRequest, Sayable, book_line, commands_of, ScriptsReadBack}
 use Rattle.script.specs.Scripts.{onto_first, lines_of, Heard, silence, taken_in, line_in, at_line, told, written_out, with_store, with_text, with_requests}
-use Rattle.script.specs.Shown.{shown_as, shown, escaped}
+use Rattle.script.specs.Shown.{shown, escaped}
 use Rattle.script.specs.Steps.{on}
 use Rattle.script.proofs.Again.{lines_read_back}
-use Rattle.script.proofs.Back.{unnamed}
+use Rattle.script.proofs.Back.{shown_cases}
 
 -- bytes without a newline
 abbrev lacks : List ℕ → Bool
@@ -51,30 +51,11 @@ lacks_hexes (b ∷ t) h = lacks_pair b (hexes t) (h 0) (lacks_hexes t (λ k. h (
 
 lacks_shown : (b : ℕ) → b < 256 → lacks (shown b) ≡ true
 lacks_shown b h =
-    let P : ℕ → Type 0 = λ x. lacks (shown x) ≡ true in
-    elim (cases_eq b 92) [
-      | inl e ↦ subst P (sym e) refl
-      | inr s ↦
-          elim (cases_eq b 34) [
-            | inl e ↦ subst P (sym e) refl
-            | inr q ↦
-                elim (cases_eq b 10) [
-                  | inl e ↦ subst P (sym e) refl
-                  | inr n ↦
-                      elim (cases_eq b 13) [
-                        | inl e ↦ subst P (sym e) refl
-                        | inr r ↦
-                            elim (cases_eq b 9) [
-                              | inl e ↦ subst P (sym e) refl
-                              | inr k ↦
-                                  subst (λ o. lacks (shown_as b o) ≡ true) (sym (unnamed b s q n r k))
-                                  (cond_both (leb 32 b && leb b 126) (b ∷ []) (92 ∷ 120 ∷ digit_char (b / 16) ∷ digit_char (b % 16) ∷ []) (λ xs. lacks xs ≡ true)
-                                  (λ _. lacks_one b [] n refl) (λ _. lacks_pair b [] h refl))
-                            ]
-                      ]
-                ]
-          ]
-    ]
+    shown_cases (λ x xs. x < 256 → lacks xs ≡ true) (λ _. refl) (λ _. refl) (λ _. refl) (λ _. refl) (λ _. refl)
+    (λ x _ _ n small.
+    cond_both (leb 32 x && leb x 126) (x ∷ []) (92 ∷ 120 ∷ digit_char (x / 16) ∷ digit_char (x % 16) ∷ []) (λ xs. lacks xs ≡ true)
+    (λ _. lacks_one x [] n refl) (λ _. lacks_pair x [] small refl))
+    b h
 
 lacks_escaped : (t : List ℕ) → Bytes t → lacks (escaped t) ≡ true
 lacks_escaped [] h = refl

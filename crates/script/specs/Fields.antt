@@ -60,8 +60,11 @@ abbrev pub number_in : List ℕ → Result (ℕ × List ℕ) Wrong
 number_in s = field number_of s
 
 -- a number that is at most a million
+abbrev pub size_of : ℕ → Result ℕ Wrong
+size_of n = cond (nat_le n 1000000) (Ok n) (Err OverLimit)
+
 abbrev pub size_in : List ℕ → Result (ℕ × List ℕ) Wrong
-size_in s = on (number_in s) (λ a. cond (nat_le a.0 1000000) (Ok a) (Err OverLimit))
+size_in s = on (number_in s) (λ a. on (size_of a.0) (λ n. Ok (n, a.1)))
 
 abbrev pub table_in : List ℕ → Result (List ℕ × List ℕ) Wrong
 table_in s = field table_of s

@@ -2,6 +2,7 @@ pub mod Hex
 pub mod Texts
 pub mod Quoted
 pub mod Shown
+pub mod Wrongs
 pub mod Steps
 pub mod Fields
 pub mod Names

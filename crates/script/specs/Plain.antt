@@ -1,9 +1,8 @@
 -- What the code holds, as plain values.
 use Rattle.std.specs.Prelude.{◌≡◌, ℕ, map, Err, vec_items, Result}
 use Rattle.std.specs.Option.{option_map}
-use Rattle.books.specs.Check.{Plan}
+use Rattle.books.specs.Plans.{planned}
 use Rattle.requests.specs.Plain.{asked}
-use Rattle.script.specs.declared.plans.Plan as code
 use Rattle.script.specs.declared.commands.Command as CodeCommand
 use Rattle.script.specs.declared.commands.Command.TheVariants as says
 use Rattle.script.specs.declared.scripts.Said as CodeSaid
@@ -15,23 +14,6 @@ use Rattle.script.specs.declared.wrong.Broken.{Broken}
 use Rattle.script.specs.declared.wrong.Broken.TheVariants as broken
 use Rattle.script.specs.Commands.{Instruction, store, opening_text, memory, token_book, line_book, ask}
 use Rattle.script.specs.Scripts.{Heard, Written}
-
-abbrev pub planned : code.Plan → Plan
-planned p =
-    record {
-      states = p.states;
-      modes = p.modes;
-      rules = p.rules;
-      tables =
-          record {
-            width = p.classes;
-            classes = vec_items p.class_table;
-            steps = vec_items p.step_table;
-            accepts = vec_items p.accept_table;
-            rules = vec_items p.rule_table;
-            starts = vec_items p.start_table;
-          };
-    }
 
 abbrev pub instruction : CodeCommand.Command → Instruction
 instruction (says.Store k n) = store k n

@@ -1,9 +1,9 @@
 -- What a text between double quotes stands for, or what is wrong with it.
-use Rattle.std.specs.Prelude.{ℕ, List, [], ◌∷◌, ◌++◌, Ok, Err, Result}
+use Rattle.std.specs.Prelude.{ℕ, List, [], ◌∷◌, ◌++◌, Some, None, Ok, Err, Option, Result}
 use Rattle.script.specs.declared.texts.Spot.{Spot}
 use Rattle.script.specs.declared.texts.Spot.TheVariants.{Plain}
 use Rattle.script.specs.declared.texts.Move.{Move}
-use Rattle.script.specs.declared.texts.Move.TheVariants.{Close, Give, Go, Fail}
+use Rattle.script.specs.declared.texts.Move.TheVariants.{Close, Give, Go}
 use Rattle.script.specs.declared.wrong.Wrong.{Wrong}
 use Rattle.script.specs.declared.wrong.Wrong.TheVariants.{OpenText, Escape}
 use Rattle.script.specs.Texts.{moves}
@@ -13,11 +13,11 @@ abbrev pub then_read : List ℕ → Result (List ℕ × List ℕ) Wrong → Resu
 then_read bs (Ok x) = Ok (bs ++ x.0, x.1)
 then_read bs (Err w) = Err w
 
-abbrev pub on_move : Move → List ℕ → (Spot → Result (List ℕ × List ℕ) Wrong) → Result (List ℕ × List ℕ) Wrong
-on_move Close bs from = Ok ([], bs)
-on_move (Give b) bs from = then_read (b ∷ []) (from Plain)
-on_move (Go q) bs from = from q
-on_move Fail bs from = Err Escape
+abbrev pub on_move : Option Move → List ℕ → (Spot → Result (List ℕ × List ℕ) Wrong) → Result (List ℕ × List ℕ) Wrong
+on_move (Some Close) bs from = Ok ([], bs)
+on_move (Some (Give b)) bs from = then_read (b ∷ []) (from Plain)
+on_move (Some (Go q)) bs from = from q
+on_move None bs from = Err Escape
 
 abbrev pub read_from : List ℕ → Spot → Result (List ℕ × List ℕ) Wrong
 read_from [] q = Err OpenText

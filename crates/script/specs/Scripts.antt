@@ -42,22 +42,22 @@ abbrev pub has_asked : Heard → Bool
 has_asked h = not (length h.requests == 0)
 
 abbrev pub with_store : Heard → Option (StoreKind × ℕ) → Heard
-with_store h x = record { store = x; text = h.text; memory = h.memory; token_book = h.token_book; line_book = h.line_book; requests = h.requests }
+with_store h x = record h { store = x }
 
 abbrev pub with_text : Heard → Option (List ℕ) → Heard
-with_text h x = record { store = h.store; text = x; memory = h.memory; token_book = h.token_book; line_book = h.line_book; requests = h.requests }
+with_text h x = record h { text = x }
 
 abbrev pub with_memory : Heard → Option (ℕ × ℕ) → Heard
-with_memory h x = record { store = h.store; text = h.text; memory = x; token_book = h.token_book; line_book = h.line_book; requests = h.requests }
+with_memory h x = record h { memory = x }
 
 abbrev pub with_token_book : Heard → Option Plan → Heard
-with_token_book h x = record { store = h.store; text = h.text; memory = h.memory; token_book = x; line_book = h.line_book; requests = h.requests }
+with_token_book h x = record h { token_book = x }
 
 abbrev pub with_line_book : Heard → Option Plan → Heard
-with_line_book h x = record { store = h.store; text = h.text; memory = h.memory; token_book = h.token_book; line_book = x; requests = h.requests }
+with_line_book h x = record h { line_book = x }
 
 abbrev pub with_requests : Heard → List Asked → Heard
-with_requests h x = record { store = h.store; text = h.text; memory = h.memory; token_book = h.token_book; line_book = h.line_book; requests = x }
+with_requests h x = record h { requests = x }
 
 abbrev pub taken_in : Heard → says.Instruction → Result Heard Wrong
 taken_in h (says.store k n) = on (filled (has_asked h) h.store (k, n)) (λ o. Ok (with_store h o))

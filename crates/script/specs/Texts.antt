@@ -1,9 +1,10 @@
 -- What a text between double quotes stands for.
 use Rattle.std.specs.Prelude.{ℕ, cond, List, [], ◌∷◌, ◌++◌, Some, None, Option, ◌==◌}
+use Rattle.std.specs.Option.{option_map}
 use Rattle.script.specs.declared.texts.Spot.{Spot}
 use Rattle.script.specs.declared.texts.Spot.TheVariants.{Plain, Slash, Digits, Half}
 use Rattle.script.specs.declared.texts.Move.{Move}
-use Rattle.script.specs.declared.texts.Move.TheVariants.{Close, Give, Go, Fail}
+use Rattle.script.specs.declared.texts.Move.TheVariants.{Close, Give, Go}
 use Rattle.script.specs.Hex.{pair}
 
 -- the byte of an escape of one letter: n, r, t, backslash and double quote
@@ -15,27 +16,23 @@ letter b =
     (cond (b == 92) (Some 92)
     (cond (b == 34) (Some 34) None))))
 
-abbrev pub given : Option ℕ → Move
-given (Some b) = Give b
-given None = Fail
-
--- what the next byte does: a double quote closes the text, a backslash begins an escape, any other byte stands for itself
-abbrev pub moves : Spot → ℕ → Move
-moves Plain b = cond (b == 34) Close (cond (b == 92) (Go Slash) (Give b))
-moves Slash b = cond (b == 120) (Go Digits) (given (letter b))
-moves Digits b = Go (Half b)
-moves (Half h) b = given (pair h b)
+-- what the next byte does: a double quote closes the text, a backslash begins an escape, any other byte stands for itself; none where the escape is none
+abbrev pub moves : Spot → ℕ → Option Move
+moves Plain b = cond (b == 34) (Some Close) (cond (b == 92) (Some (Go Slash)) (Some (Give b)))
+moves Slash b = cond (b == 120) (Some (Go Digits)) (option_map (λ x. Give x) (letter b))
+moves Digits b = Some (Go (Half b))
+moves (Half h) b = option_map (λ x. Give x) (pair h b)
 
 -- some bytes, then what was read behind them
 abbrev pub behind : List ℕ → Option (List ℕ × List ℕ) → Option (List ℕ × List ℕ)
 behind bs None = None
 behind bs (Some x) = Some (bs ++ x.0, x.1)
 
-abbrev pub going : Move → List ℕ → (Spot → Option (List ℕ × List ℕ)) → Option (List ℕ × List ℕ)
-going Close bs from = Some ([], bs)
-going (Give b) bs from = behind (b ∷ []) (from Plain)
-going (Go q) bs from = from q
-going Fail bs from = None
+abbrev pub going : Option Move → List ℕ → (Spot → Option (List ℕ × List ℕ)) → Option (List ℕ × List ℕ)
+going (Some Close) bs from = Some ([], bs)
+going (Some (Give b)) bs from = behind (b ∷ []) (from Plain)
+going (Some (Go q)) bs from = from q
+going None bs from = None
 
 abbrev pub reading : List ℕ → Spot → Option (List ℕ × List ℕ)
 reading [] q = None

@@ -1,33 +1,38 @@
 // Bytes at the front of others.
-ghost use Rattle.std.specs.Prelude.{◌≡◌, ℕ, ◌-◌, ◌<◌, ◌≤◌, length, take, drop, ◌≢◌, slice_index};
+ghost use Rattle.std.specs.Prelude.{◌≡◌};
+ghost use Rattle.std.specs.Iterator.{YieldsFirstRef, item_count};
 ghost use Rattle.script.specs.Fields.{front, onward};
+ghost use Rattle.script.specs.Scripts.{lines_of};
 
-// How many bytes stand before the first one that is this.
-pub(crate) fn until(bytes: &[u8], end: u8) -> usize
-    ensures within { result ≤ length bytes.now }
-    ensures before { (k : ℕ) → k < result → slice_index bytes.now k ≢ end }
-    ensures found { result < length bytes.now → slice_index bytes.now result ≡ end }
-    ensures front { take result bytes.now ≡ front end bytes.now }
-    ensures behind { drop result bytes.now ≡ onward end bytes.now }
+// The bytes before the first one that is this, and those from it on.
+pub(crate) fn split_before(bytes: &[u8], end: u8) -> (&[u8], &[u8])
+    ensures before { result.0.now ≡ front end bytes.now }
+    ensures behind { result.1.now ≡ onward end bytes.now }
 {
-    for (i, b) in bytes.iter().enumerate() {
-        if *b == end {
-            return i;
-        }
-    }
-    bytes.len()
+    let n = bytes.iter().position(|b| *b == end).unwrap_or(bytes.len());
+    bytes.split_at(n)
 }
 
-// The first line, and what stands behind its newline.
-pub(crate) fn split_line(bytes: &[u8]) -> (&[u8], &[u8])
-    ensures line { result.0.now ≡ front 10 bytes.now }
-    ensures behind { result.1.now ≡ drop 1 (onward 10 bytes.now) }
-    ensures shorter { length result.1.now ≤ length bytes.now - 1 }
-{
-    let n = until(bytes, b'\n');
-    if n < bytes.len() {
-        (&bytes[0..n], &bytes[n + 1..])
-    } else {
-        (&bytes[0..n], &bytes[n..])
+// The lines of a script, one after the other. std's split gives one more behind a last newline, an empty one, which is no line.
+#[derive(Drop)]
+pub(crate) struct Lines<'a> {
+    pub(crate) rest: &'a [u8],
+}
+
+impl<'a> Iterator for Lines<'a> {
+    type Item = &'a [u8];
+
+    ghost next_gives = { YieldsFirstRef (λ s. lines_of s.rest.now) };
+
+    // no more lines than bytes
+    ghost remaining = { item_count (λ s. s.rest.now) };
+
+    fn next(&mut self) -> Option<&'a [u8]> {
+        if self.rest.is_empty() {
+            return None;
+        }
+        let (line, behind) = split_before(self.rest, b'\n');
+        self.rest = behind.get(1..).unwrap_or(&[]);
+        Some(line)
     }
 }

@@ -1,13 +1,15 @@
 // The fields of a line, one behind the other.
-ghost use Rattle.std.specs.Prelude.{◌≡◌, ◌≤◌, [], IfOk, Ok, Err, MatchResult};
+ghost use Rattle.std.specs.Prelude.{◌≡◌, ℕ, ◌≤◌, List, [], IfOk};
 ghost use Rattle.script.specs.Fields.{front, onward, past_blank, number_in, size_in, table_in, text_in, at_end};
-ghost use Rattle.script.specs.Steps.{Stopped};
+ghost use Rattle.script.specs.Steps.{Answers, AnswersOrStops};
 
-use crate::bytes::until;
-use crate::numbers::{LIMIT, number_of, table_of};
-use crate::texts::{Quoted, text_of};
+use crate::bytes::split_before;
+use crate::numbers::{number_of, table_of};
+use crate::sizes::Size;
+use crate::texts::text_of;
 use crate::wrong::{Stop, Wrong};
 use std::alloc::Global;
+use std::marker::Model;
 
 // What is left of a line.
 #[derive(Drop)]
@@ -15,73 +17,72 @@ pub(crate) struct Fields<'a> {
     pub(crate) rest: &'a [u8],
 }
 
+impl<'a> Model for Fields<'a> {
+    ghost Value = { List ℕ };
+
+    ghost view = { λ f. f.rest.now };
+}
+
 impl<'a> Fields<'a> {
     // The bytes up to the next blank or the end.
     pub(crate) fn word(&mut self) -> &'a [u8]
-        ensures before { result.now ≡ front 32 self.old.rest.now }
-        ensures behind { self.new.rest.now ≡ onward 32 self.old.rest.now }
+        ensures before { result.now ≡ front 32 self.old }
+        ensures behind { self.new ≡ onward 32 self.old }
     {
-        let rest = self.rest;
-        let n = until(rest, b' ');
-        self.rest = &rest[n..];
-        &rest[0..n]
+        let (word, rest) = split_before(self.rest, b' ');
+        self.rest = rest;
+        word
     }
 
     // Goes over the one blank before a field.
     pub(crate) fn blank(&mut self) -> Result<(), Wrong>
-        ensures { MatchResult result (λ _. past_blank self.old.rest.now ≡ Ok self.new.rest.now) (λ w. past_blank self.old.rest.now ≡ Err w) }
+        ensures { Answers result (past_blank self.old) (λ _. self.new) }
     {
-        match self.rest.split_first() {
-            Some((b' ', rest)) => {
+        match self.rest {
+            [b' ', rest @ ..] => {
                 self.rest = rest;
                 Ok(())
             }
-            Some(_) => Err(Wrong::Left),
-            None => Err(Wrong::Missing),
+            [] => Err(Wrong::Missing),
+            _ => Err(Wrong::Left),
         }
     }
 
     pub(crate) fn number(&mut self) -> Result<usize, Wrong>
-        ensures { MatchResult result (λ n. number_in self.old.rest.now ≡ Ok (n, self.new.rest.now)) (λ w. number_in self.old.rest.now ≡ Err w) }
+        ensures { Answers result (number_in self.old) (λ n. (n, self.new)) }
     {
         self.blank()?;
         number_of(self.word())
     }
 
-    // A number that is at most the limit.
-    pub(crate) fn size(&mut self) -> Result<usize, Wrong>
-        ensures limit { IfOk result (λ n. n ≤ 1000000) }
-        ensures read { MatchResult result (λ n. size_in self.old.rest.now ≡ Ok (n, self.new.rest.now)) (λ w. size_in self.old.rest.now ≡ Err w) }
+    pub(crate) fn size(&mut self) -> Result<Size, Wrong>
+        ensures { Answers result (size_in self.old) (λ n. (n, self.new)) }
     {
-        let number = self.number()?;
-        if number > LIMIT {
-            return Err(Wrong::OverLimit);
-        }
-        Ok(number)
+        Size::try_from(self.number()?)
     }
 
     pub(crate) fn table(&mut self, heap: Global) -> Result<Vec<u8>, Stop>
-        ensures { MatchResult result (λ v. table_in self.old.rest.now ≡ Ok (v.items, self.new.rest.now)) (λ s. Stopped (table_in self.old.rest.now) s) }
+        ensures { AnswersOrStops result (table_in self.old) (λ v. (v.items, self.new)) }
     {
         self.blank()?;
         table_of(heap, self.word())
     }
 
     pub(crate) fn text(&mut self, heap: Global) -> Result<Vec<u8>, Stop>
-        ensures { MatchResult result (λ v. text_in self.old.rest.now ≡ Ok (v.items, self.new.rest.now)) (λ s. Stopped (text_in self.old.rest.now) s) }
+        ensures { AnswersOrStops result (text_in self.old) (λ v. (v.items, self.new)) }
     {
         self.blank()?;
-        let Some((b'"', bytes)) = self.rest.split_first() else {
+        let [b'"', bytes @ ..] = self.rest else {
             return Err(Stop::Wrong(Wrong::NoText));
         };
-        let Quoted { text, taken } = text_of(heap, bytes)?;
-        self.rest = &bytes[taken..];
+        let (text, rest) = text_of(heap, bytes)?;
+        self.rest = rest;
         Ok(text)
     }
 
     // Is the line at its end?
     pub(crate) fn end(&self) -> Result<(), Wrong>
-        ensures { MatchResult result (λ _. at_end self.now.rest.now ≡ Ok []) (λ w. at_end self.now.rest.now ≡ Err w) }
+        ensures { Answers result (at_end self.now) (λ _. []) }
     {
         if self.rest.is_empty() {
             Ok(())

@@ -8,6 +8,7 @@ mod names;
 mod numbers;
 mod plans;
 mod scripts;
+mod sizes;
 mod texts;
 mod wrong;
 

@@ -1,7 +1,10 @@
 // The words that commands begin with.
 ghost use Rattle.std.specs.Prelude.{◌≡◌};
-ghost use Rattle.std.specs.Str.{bytes_eq};
+ghost use Rattle.std.specs.Option.{ok_or};
+ghost use Rattle.script.specs.declared.wrong.Wrong.TheVariants.{Command};
 ghost use Rattle.script.specs.Names.{name_of};
+
+use crate::wrong::Wrong;
 
 #[derive(Clone, Copy)]
 pub enum Name {
@@ -19,41 +22,26 @@ pub enum Name {
     Alike,
 }
 
-// Is the word this one?
-pub(crate) fn is(word: &[u8], name: &[u8]) -> bool
-    ensures { result ≡ bytes_eq word.now name.now }
-{
-    word == name
-}
+impl TryFrom<&[u8]> for Name {
+    type Error = Wrong;
 
-pub(crate) fn name_of(word: &[u8]) -> Option<Name>
-    ensures { result ≡ name_of word.now }
-{
-    if is(word, b"store") {
-        Some(Name::Store)
-    } else if is(word, b"text") {
-        Some(Name::Text)
-    } else if is(word, b"memory") {
-        Some(Name::Memory)
-    } else if is(word, b"token-book") {
-        Some(Name::TokenBook)
-    } else if is(word, b"line-book") {
-        Some(Name::LineBook)
-    } else if is(word, b"correct") {
-        Some(Name::Correct)
-    } else if is(word, b"token") {
-        Some(Name::Token)
-    } else if is(word, b"line") {
-        Some(Name::Line)
-    } else if is(word, b"where") {
-        Some(Name::Where)
-    } else if is(word, b"time") {
-        Some(Name::Time)
-    } else if is(word, b"copy") {
-        Some(Name::Copy)
-    } else if is(word, b"alike") {
-        Some(Name::Alike)
-    } else {
-        None
+    ghost try_from_gives = { λ w r. r ≡ ok_or (name_of w.now) Command };
+
+    fn try_from(word: &[u8]) -> Result<Name, Wrong> {
+        match word {
+            b"store" => Ok(Name::Store),
+            b"text" => Ok(Name::Text),
+            b"memory" => Ok(Name::Memory),
+            b"token-book" => Ok(Name::TokenBook),
+            b"line-book" => Ok(Name::LineBook),
+            b"correct" => Ok(Name::Correct),
+            b"token" => Ok(Name::Token),
+            b"line" => Ok(Name::Line),
+            b"where" => Ok(Name::Where),
+            b"time" => Ok(Name::Time),
+            b"copy" => Ok(Name::Copy),
+            b"alike" => Ok(Name::Alike),
+            _ => Err(Wrong::Command),
+        }
     }
 }

@@ -1,16 +1,14 @@
 // Numbers and tables of a script.
-ghost use Rattle.std.specs.Prelude.{◌≡◌, ◌+◌, ◌-◌, ◌*◌, ◌<◌, IfSome, IfOk, Ok, MatchResult, fold};
-ghost use Rattle.script.specs.Fields.{number_of, table_of};
+ghost use Rattle.std.specs.Prelude.{◌≡◌, ◌+◌, ◌-◌, ◌*◌, ◌<◌, IfSome, IfOk, fold};
+ghost use Rattle.std.specs.Option.{ok_or};
+ghost use Rattle.script.specs.Fields.{number_of, pairs, table_of};
 ghost use Rattle.script.specs.Hex.{hex, pair as pair_of};
-ghost use Rattle.script.specs.Steps.{Stopped};
+ghost use Rattle.script.specs.Steps.{AnswersOrStops};
 
 use crate::wrong::{Stop, Wrong};
 use std::alloc::Global;
 
-// The greatest capacity, count of records and size of a buffer that a script may ask for.
-pub(crate) const LIMIT: usize = 1_000_000;
-
-// The number that the digits stand for in base ten.
+// The number that the digits stand for in base ten. std's parse would take a + before them too.
 pub(crate) fn number_of(word: &[u8]) -> Result<usize, Wrong>
     ensures value { IfOk result (λ n. n ≡ fold (λ a b. a * 10 + (b - 48)) 0 word.now) }
     ensures read { result ≡ number_of word.now }
@@ -20,17 +18,14 @@ pub(crate) fn number_of(word: &[u8]) -> Result<usize, Wrong>
     }
     let mut number: usize = 0;
     for b in word {
-        if *b < b'0' || *b > b'9' {
+        if !b.is_ascii_digit() {
             return Err(Wrong::Number);
         }
-        let digit = (*b - b'0') as usize;
-        let Some(tens) = number.checked_mul(10) else {
-            return Err(Wrong::TooLarge);
-        };
-        let Some(sum) = tens.checked_add(digit) else {
-            return Err(Wrong::TooLarge);
-        };
-        number = sum;
+        let digit = usize::from(*b - b'0');
+        number = number
+            .checked_mul(10)
+            .and_then(|tens| tens.checked_add(digit))
+            .ok_or(Wrong::TooLarge)?;
     }
     Ok(number)
 }
@@ -40,46 +35,39 @@ fn hex_digit(b: u8) -> Option<u8>
     ensures value { result ≡ hex b }
     ensures within { IfSome result (λ d. d < 16) }
 {
-    match b {
-        b'0'..=b'9' => Some(b - b'0'),
-        b'a'..=b'f' => Some(b - b'a' + 10),
-        b'A'..=b'F' => Some(b - b'A' + 10),
-        _ => None,
-    }
+    let digit = char::from(b).to_digit(16)?;
+    u8::try_from(digit).ok()
 }
 
 // The byte that a pair of hex digits stands for.
 pub(crate) fn pair(high: u8, low: u8) -> Option<u8>
     ensures { result ≡ pair_of high low }
 {
-    let Some(h) = hex_digit(high) else {
-        return None;
-    };
-    let Some(l) = hex_digit(low) else {
-        return None;
-    };
-    Some(16 * h + l)
+    Some(16 * hex_digit(high)? + hex_digit(low)?)
+}
+
+// The bytes that pairs of hex digits stand for.
+#[tactic(auto, using(crate::proofs::Digits::pairs_more, crate::proofs::Digits::pairs_bad))]
+fn pairs_of(heap: Global, word: &[u8]) -> Result<Vec<u8>, Stop>
+    ensures { AnswersOrStops result (ok_or (pairs word.now) Wrong.Table) (λ v. v.items) }
+{
+    let mut bytes = Vec::new(heap);
+    for digits in word.chunks(2) {
+        let [high, low] = digits else {
+            return Err(Stop::Wrong(Wrong::Table));
+        };
+        bytes.push(pair(*high, *low).ok_or(Wrong::Table)?)?;
+    }
+    Ok(bytes)
 }
 
 // The bytes of a table: a pair of hex digits for each, or - for none.
 pub(crate) fn table_of(heap: Global, word: &[u8]) -> Result<Vec<u8>, Stop>
-    ensures { MatchResult result (λ v. table_of word.now ≡ Ok v.items) (λ s. Stopped (table_of word.now) s) }
+    ensures { AnswersOrStops result (table_of word.now) (λ v. v.items) }
 {
-    let mut table = Vec::new(heap);
-    if word == b"-".as_slice() {
-        return Ok(table);
+    match word {
+        b"" => Err(Stop::Wrong(Wrong::Missing)),
+        b"-" => Ok(Vec::new(heap)),
+        _ => pairs_of(heap, word),
     }
-    if word.is_empty() {
-        return Err(Stop::Wrong(Wrong::Missing));
-    }
-    if word.len() % 2 != 0 {
-        return Err(Stop::Wrong(Wrong::Table));
-    }
-    for i in 0..word.len() / 2 {
-        let Some(byte) = pair(word[2 * i], word[2 * i + 1]) else {
-            return Err(Stop::Wrong(Wrong::Table));
-        };
-        table.push(byte)?;
-    }
-    Ok(table)
 }

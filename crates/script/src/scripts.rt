@@ -1,15 +1,16 @@
 // A whole script.
-ghost use Rattle.std.specs.Prelude.{◌≡◌, ◌+◌, ◌^◌, ◌<◌, ◌≤◌, true, false, [], is_some, Some, None, Ok, Err, vec_items, MatchResult};
+ghost use Rattle.std.specs.Prelude.{◌≡◌, ◌+◌, true, false, [], is_some, Some, None, Ok, vec_items, MatchResult};
 ghost use Rattle.std.specs.Option.{option_map, unwrap_or};
 ghost use Rattle.script.specs.declared.scripts.StoreKind.TheVariants.{Gap};
 ghost use Rattle.script.specs.Laws.{LinesReadBack, ScriptsReadBack};
 ghost use Rattle.script.specs.Plain.{instruction, heard, written, broken_at, Breaks};
-ghost use Rattle.script.specs.Scripts.{filled, silence, has_asked, taken_in, line_in, store_of, script_of, meaning};
-ghost use Rattle.script.specs.Steps.{Stopped};
+ghost use Rattle.script.specs.Scripts.{filled, silence, has_asked, taken_in, line_in, script_of, meaning};
+ghost use Rattle.script.specs.Steps.{Answers, AnswersOrStops};
 
-use crate::bytes::split_line;
+use crate::bytes::Lines;
 use crate::commands::{Command, command_of};
 use crate::plans::Plan;
+use crate::sizes::Size;
 use crate::wrong::{Broken, Stop, Wrong};
 use requests::Request;
 use std::alloc::Global;
@@ -38,9 +39,9 @@ pub struct Script {
 // What the lines so far said. What is none was not said.
 #[derive(Drop)]
 pub struct Said {
-    store: Option<(StoreKind, usize)>,
+    store: Option<(StoreKind, Size)>,
     text: Option<Vec<u8>>,
-    memory: Option<(usize, usize)>,
+    memory: Option<(Size, Size)>,
     token_book: Option<Plan>,
     line_book: Option<Plan>,
     requests: Vec<Request>,
@@ -49,23 +50,13 @@ pub struct Said {
 // Puts what a set-up line says into its place, unless something is there.
 fn put<T: Drop>(place: &mut Option<T>, value: T) -> Result<(), Wrong>
     ensures placed { MatchResult result (λ _. (place.old ≡ None) × (place.new ≡ Some value)) (λ w. (is_some place.old ≡ true) × (place.new ≡ place.old)) }
-    ensures filled { MatchResult result (λ _. filled false place.old value ≡ Ok place.new) (λ w. filled false place.old value ≡ Err w) }
+    ensures filled { Answers result (filled false place.old value) (λ _. place.new) }
 {
     if place.is_some() {
         return Err(Wrong::Twice);
     }
     *place = Some(value);
     Ok(())
-}
-
-// Puts what a set-up line says into its place, unless it comes behind a request or something is there.
-fn fill<T: Drop>(place: &mut Option<T>, value: T, late: bool) -> Result<(), Wrong>
-    ensures { MatchResult result (λ _. filled late place.old value ≡ Ok place.new) (λ w. filled late place.old value ≡ Err w) }
-{
-    if late {
-        return Err(Wrong::Late);
-    }
-    put(place, value)
 }
 
 impl Said {
@@ -85,10 +76,10 @@ impl Said {
     // The script, with the defaults for what was not said.
     fn script(self, heap: Global) -> Script
         ensures store { (result.kind, result.capacity) ≡ unwrap_or self.store (Gap, 4096) }
-        ensures memory { result.capacity + 1 < 2 ^ 64 → (result.token_records, result.line_records) ≡ unwrap_or self.memory (result.capacity + 1, result.capacity + 1) }
+        ensures memory { (result.token_records, result.line_records) ≡ unwrap_or self.memory (result.capacity + 1, result.capacity + 1) }
         ensures text { result.text.items ≡ unwrap_or (option_map vec_items self.text) [] }
         ensures rest { (result.token_book ≡ self.token_book) × (result.line_book ≡ self.line_book) × (result.requests ≡ self.requests) }
-        ensures written { (store_of (heard self)).1 ≤ 1000000 → written result ≡ script_of (heard self) }
+        ensures written { written result ≡ script_of (heard self) }
     {
         let Said {
             store,
@@ -98,13 +89,15 @@ impl Said {
             line_book,
             requests,
         } = self;
-        let (kind, capacity) = store.unwrap_or((StoreKind::Gap, 4096));
-        let records = capacity.saturating_add(1);
-        let (token_records, line_records) = memory.unwrap_or((records, records));
-        let text = match text {
-            Some(text) => text,
-            None => Vec::new(heap),
-        };
+        let (kind, capacity) = store.map_or(
+            (StoreKind::Gap, 4096),
+            |(kind, size)| (kind, size.get()),
+        );
+        let (token_records, line_records) = memory.map_or(
+            (capacity + 1, capacity + 1),
+            |(tokens, lines)| (tokens.get(), lines.get()),
+        );
+        let text = text.unwrap_or_else(|| Vec::new(heap));
         Script {
             kind,
             capacity,
@@ -124,29 +117,30 @@ impl Said {
         !self.requests.is_empty()
     }
 
-    // Takes a command in.
+    // Takes a command in. None but a request comes behind a request.
     fn set(&mut self, command: Command) -> Result<(), Stop>
-        ensures { MatchResult result (λ _. taken_in (heard self.old) (instruction command) ≡ Ok (heard self.new)) (λ s. Stopped (taken_in (heard self.old) (instruction command)) s) }
+        ensures { AnswersOrStops result (taken_in (heard self.old) (instruction command)) (λ _. heard self.new) }
     {
-        let late = self.late();
         match command {
-            Command::Store(kind, capacity) => Ok(fill(&mut self.store, (kind, capacity), late)?),
-            Command::Text(text) => Ok(fill(&mut self.text, text, late)?),
-            Command::Memory(tokens, lines) => Ok(fill(&mut self.memory, (tokens, lines), late)?),
-            Command::TokenBook(plan) => Ok(fill(&mut self.token_book, plan, late)?),
-            Command::LineBook(plan) => Ok(fill(&mut self.line_book, plan, late)?),
-            Command::Ask(request) => Ok(self.requests.push(request)?),
+            Command::Ask(request) => self.requests.push(request)?,
+            _ if self.late() => return Err(Stop::Wrong(Wrong::Late)),
+            Command::Store(kind, capacity) => put(&mut self.store, (kind, capacity))?,
+            Command::Text(text) => put(&mut self.text, text)?,
+            Command::Memory(tokens, lines) => put(&mut self.memory, (tokens, lines))?,
+            Command::TokenBook(plan) => put(&mut self.token_book, plan)?,
+            Command::LineBook(plan) => put(&mut self.line_book, plan)?,
         }
+        Ok(())
     }
 
     // Takes a line in.
     fn take(&mut self, heap: Global, line: &[u8]) -> Result<(), Stop>
-        ensures { MatchResult result (λ _. line_in (heard self.old) line.now ≡ Ok (heard self.new)) (λ s. Stopped (line_in (heard self.old) line.now) s) }
+        ensures { AnswersOrStops result (line_in (heard self.old) line.now) (λ _. heard self.new) }
     {
-        if line.is_empty() || line[0] == b'#' {
-            return Ok(());
+        match line {
+            [] | [b'#', ..] => Ok(()),
+            _ => self.set(command_of(heap, line)?),
         }
-        self.set(command_of(heap, line)?)
     }
 }
 
@@ -161,21 +155,15 @@ fn broken(number: usize, stop: Stop) -> Broken
 }
 
 // Reads a script: what it says, or the first line that breaks its rules.
+#[tactic(auto, using(crate::proofs::Again::lines_read_back, crate::proofs::Rewritten::scripts_read_back))]
 pub fn parse(heap: Global, input: &[u8]) -> Result<Script, Broken>
     ensures lines { LinesReadBack }
     ensures back { ScriptsReadBack }
     ensures script { MatchResult result (λ s. meaning input.now ≡ Ok (written s)) (λ b. Breaks (meaning input.now) b) }
 {
     let mut said = Said::new(heap);
-    let mut rest = input;
-    let mut number: usize = 0;
-    while !rest.is_empty() {
-        number += 1;
-        let (line, behind) = split_line(rest);
-        if let Err(stop) = said.take(heap, line) {
-            return Err(broken(number, stop));
-        }
-        rest = behind;
+    for (i, line) in (Lines { rest: input }).enumerate() {
+        said.take(heap, line).map_err(|stop| broken(i + 1, stop))?;
     }
     Ok(said.script(heap))
 }

@@ -1,6 +1,4 @@
-pub mod Items
-pub mod Lists
+pub mod Codes
 pub mod Opened
 pub mod Texts
-pub mod Same
 pub mod Corrected

@@ -1,11 +1,11 @@
 -- The text that each request meets, with one more request at the end.
-use Rattle.std.proofs.Common.{◌≡◌, ℕ, zero, suc, ◌+◌, ◌-◌, ◌≤◌, Bool, true, false, leb, List, [], ◌∷◌, ◌++◌, length, is_some, Some, None, refl, ap, arith}
-use Rattle.std.specs.Option.{option_map}
-use Rattle.std.proofs.lemmas.Bool.{leb-true, cond-true, cond-false}
+use Rattle.std.proofs.Common.{◌≡◌, ℕ, zero, suc, ◌+◌, ◌≤◌, List, [], ◌∷◌, ◌++◌, length, is_some, Some, None, sym, refl, ap, arith}
+use Rattle.std.proofs.lemmas.Bool.{cond-true, cond-false}
+use Rattle.books.proofs.Questions.{mapped_none}
 use Rattle.counts.specs.declared.Refusal.{Refusal}
-use Rattle.text.specs.declared.fault.StoreFault.{StoreFault}
 use Rattle.text.specs.Refused as store
 use Rattle.text.specs.Replaced.{replaced}
+use Rattle.text.proofs.Facts.{taken}
 use Rattle.requests.specs.Asked.{Asked, correct}
 use Rattle.requests.specs.Sheets.{text_at, text_after, refusal}
 
@@ -20,16 +20,9 @@ unfolding text_at
 text_last room s [] r = refl
 text_last room s (x ∷ rs) r = text_last room (text_after room s x) rs r
 
-yeses : (p q r : Bool) (f g h : StoreFault) → option_map store.told (store.asked p f (store.asked q g (store.asked r h None))) ≡ None → (p ≡ true) × (q ≡ true)
-yeses true true r f g h e = (refl, refl)
-yeses true false r f g h e = let z : ◌≡◌ {A = ℕ} 0 1 = cc in absurd (omega arith)
-yeses false q r f g h e = let z : ◌≡◌ {A = ℕ} 0 1 = cc in absurd (omega arith)
-
 -- what a taken correction cuts is in the text
 pub taken_within : (room : ℕ) (s : List ℕ) (a c : ℕ) (i : List ℕ) → refusal room s a c i ≡ None → a + c ≤ length s
-taken_within room s a c i e =
-    let y = yeses (leb a (length s)) (leb c (length s - a)) (leb (length s - c + length i) room) _ _ _ e in
-    omega (arith, leb-true a (length s) y.0, leb-true c (length s - a) y.1)
+taken_within room s a c i e = (taken (length s) room a c (length i) (sym (mapped_none store.told _ e))).0
 
 pub text_taken : (room : ℕ) (s : List ℕ) (a c : ℕ) (i : List ℕ) → refusal room s a c i ≡ None → text_after room s (correct a c i) ≡ replaced s a c i
 unfolding text_after

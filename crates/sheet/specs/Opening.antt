@@ -11,6 +11,6 @@ asked answer fault next = cond answer next (Some fault)
 -- Is the capacity at most 65535? Has the token memory a record for each byte of the capacity, and one more? Has the line memory?
 abbrev pub unopened : ℕ → ℕ → ℕ → Option SheetFault
 unopened capacity tokens lines =
-    asked (nat_le capacity 65535) (Capacity (record { 0 = capacity }))
-    (asked (nat_lt capacity tokens) (TokenMemory (record { 0 = tokens }))
-    (asked (nat_lt capacity lines) (LineMemory (record { 0 = lines })) None))
+    asked (nat_le capacity 65535) (Capacity capacity)
+    (asked (nat_lt capacity tokens) (TokenMemory tokens)
+    (asked (nat_lt capacity lines) (LineMemory lines) None))

@@ -3,6 +3,8 @@
 
 mod asking;
 mod corrections;
+mod entries;
+mod lists;
 mod opening;
 mod parts;
 mod sheets;

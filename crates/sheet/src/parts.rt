@@ -1,6 +1,7 @@
 // What a sheet is made of.
 ghost use Rattle.std.specs.Prelude.{◌≡◌};
 
+use crate::entries::Entries;
 use crate::sheets::Sheet;
 use books::Book;
 use requests::SheetFault;
@@ -27,17 +28,24 @@ impl<S> Sheet<S> {
     // Gives back what the sheet was made of.
     pub fn into_parts(self) -> Parts<S>
         ensures store { result.store ≡ self.store }
-        ensures books { (result.token_book ≡ self.token_book) × (result.line_book ≡ self.line_book) }
-        ensures memory { (result.tokens ≡ self.tokens) × (result.lines ≡ self.lines) }
+        ensures books { (result.token_book ≡ self.tokens.book) × (result.line_book ≡ self.lines.book) }
+        ensures memory { (result.tokens ≡ self.tokens.memory) × (result.lines ≡ self.lines.memory) }
     {
-        let token_book = self.token_book;
-        let line_book = self.line_book;
         let Sheet {
             store,
             tokens,
             lines,
-            ..
         } = self;
+        let Entries {
+            book: token_book,
+            memory: tokens,
+            ..
+        } = tokens;
+        let Entries {
+            book: line_book,
+            memory: lines,
+            ..
+        } = lines;
         Parts {
             store,
             token_book,

@@ -1,20 +1,11 @@
 // The sheet.
-ghost use Rattle.std.specs.Prelude.{◌≤◌, vec_len};
+use crate::entries::Entries;
+use counts::{Bytes, Lines, Tokens};
 
-use books::Book;
-use counts::{LineCount, TokenCount};
-use scanner::{Line, Token};
-
-// The lists stand at the front of their memories.
+// A text in a store, with the list of its tokens and the list of its lines. That they are the text's (`Right`) is a clause of the calls and no ghost field: the type would then ask of every S that it is a store.
 #[derive(Drop)]
 pub struct Sheet<S> {
     pub(crate) store: S,
-    pub(crate) token_book: Book,
-    pub(crate) line_book: Book,
-    pub(crate) tokens: Vec<Token>,
-    pub(crate) token_count: TokenCount,
-    pub(crate) lines: Vec<Line>,
-    pub(crate) line_count: LineCount,
-    ghost tokens_within: { token_count.0 ≤ vec_len tokens },
-    ghost lines_within: { line_count.0 ≤ vec_len lines },
+    pub(crate) tokens: Entries<Bytes, Tokens>,
+    pub(crate) lines: Entries<Tokens, Lines>,
 }

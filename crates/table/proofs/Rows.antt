@@ -2,17 +2,13 @@
 use Rattle.std.proofs.Common.{◌≡◌, ℕ, ◌+◌, List, [], ◌∷◌, ◌++◌, sym, ap, ◌∙◌, zero-add}
 use Rattle.std.specs.List.{range_with_len, flat_map}
 use Rattle.std.proofs.lemmas.List.FromFn.{map-range_with_len_more}
-use Rattle.std.proofs.lemmas.List.{flat_map_more, map-id, append-nil}
+use Rattle.std.proofs.lemmas.List.{flat_map_more, map-id}
 use Rattle.reading.specs.Reading.{Entry, at, start}
 use Rattle.table.specs.Table.{row, columns, header, rows}
 
 counting_more : (n : ℕ) → range_with_len 0 (n + 1) ≡ range_with_len 0 n ++ (n ∷ [])
 counting_more n =
     sym (map-id (range_with_len 0 (n + 1))) ∙ map-range_with_len_more (λ k. k) 0 n n (zero-add n) ∙ ap (λ xs. xs ++ (n ∷ [])) (map-id (range_with_len 0 n))
-
-pub rows_none : (es : List Entry) → header ≡ header ++ rows es 0
-unfolding rows
-rows_none es = sym (append-nil header)
 
 -- row n behind the n rows before it
 pub rows_more : (es : List Entry) (n : ℕ) → (header ++ rows es n) ++ row (columns n (start es n) (at es n)) ≡ header ++ rows es (n + 1)

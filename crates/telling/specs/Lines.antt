@@ -1,18 +1,12 @@
 -- The lines that answers are told in.
 use Rattle.std.specs.Prelude.{ℕ, Bool, true, false, List, [], ◌∷◌, ◌++◌, Some, None, Ok, Err, vec_items, codes, decimal, Option, Result}
 use Rattle.std.specs.List.{flat_map}
-use Rattle.std.specs.Option.{option_map}
-use Rattle.counts.specs.declared.ByteCount.{ByteCount}
-use Rattle.counts.specs.declared.TokenCount.{TokenCount}
 use Rattle.counts.specs.declared.Refusal.{Refusal}
 use Rattle.reading.specs.Reading.{Entry}
-use Rattle.scanner.specs.Numbers.{numbers}
 use Rattle.requests.specs.Asked.{Reports}
-use Rattle.requests.specs.Plain.{plain}
 use Rattle.requests.specs.Told.{told}
 use Rattle.requests.specs.declared.answers.Answer.{Answer}
 use Rattle.requests.specs.declared.answers.Answer.TheVariants.{Corrected, Token, Line, Where, Time, Copied, Alike}
-use Rattle.requests.specs.declared.answers.Reports as code
 use Rattle.requests.specs.declared.faults.SheetFault.{SheetFault}
 use Rattle.script.specs.Shown.{quoted}
 
@@ -41,24 +35,24 @@ eight r =
 abbrev pub refusal_line : Refusal → List ℕ
 refusal_line f = line (codes "refused") (three f)
 
-abbrev pub corrected : Result code.Reports SheetFault → List ℕ
-corrected (Ok r) = line (codes "report") (eight (plain r))
+abbrev pub corrected : Result Reports SheetFault → List ℕ
+corrected (Ok r) = line (codes "report") (eight r)
 corrected (Err f) = refusal_line (told f)
 
 abbrev pub entry_line : List ℕ → Option Entry → List ℕ
 entry_line name (Some e) = line name (five e)
 entry_line name None = line (codes "none") []
 
-abbrev pub where_line : Option (TokenCount × ByteCount) → List ℕ
-where_line (Some w) = line (codes "where") (w.0.0 ∷ w.1.0 ∷ [])
+abbrev pub where_line : Option (ℕ × ℕ) → List ℕ
+where_line (Some w) = line (codes "where") (w.0 ∷ w.1 ∷ [])
 where_line None = line (codes "none") []
 
 abbrev pub time_line : Option ℕ → List ℕ
 time_line (Some t) = line (codes "time") (t ∷ [])
 time_line None = line (codes "none") []
 
-abbrev pub copy_line : Result ByteCount SheetFault → List ℕ → List ℕ
-copy_line (Ok n) buffer = line_with (codes "copied") (n.0 ∷ []) buffer
+abbrev pub copy_line : Result ℕ SheetFault → List ℕ → List ℕ
+copy_line (Ok n) buffer = line_with (codes "copied") (n ∷ []) buffer
 copy_line (Err f) buffer = line_with (codes "refused") (three (told f)) buffer
 
 abbrev pub alike_line : Option Bool → List ℕ
@@ -69,8 +63,8 @@ alike_line None = line (codes "none") []
 -- the line of an answer
 abbrev pub answer_line : Answer → List ℕ
 answer_line (Corrected r) = corrected r
-answer_line (Token o) = entry_line (codes "token") (option_map (numbers (λ c. c.0) (λ c. c.0)) o)
-answer_line (Line o) = entry_line (codes "line") (option_map (numbers (λ c. c.0) (λ c. c.0)) o)
+answer_line (Token o) = entry_line (codes "token") o
+answer_line (Line o) = entry_line (codes "line") o
 answer_line (Where o) = where_line o
 answer_line (Time o) = time_line o
 answer_line (Copied n b) = copy_line n (vec_items b)

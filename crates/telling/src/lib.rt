@@ -3,6 +3,5 @@
 
 mod lines;
 mod quotes;
-mod wrongs;
 
 pub use lines::{answer_line, broken_line, refusal_line, text_line};

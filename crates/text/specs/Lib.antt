@@ -1,4 +1,3 @@
 pub mod Refused
 pub mod Replaced
 pub mod Layout
-pub mod Pieces

@@ -15,19 +15,20 @@ pub enum StoreFault {
     NoRoom(ByteCount),
 }
 
-impl StoreFault {
-    pub fn refusal(self) -> Refusal
-        ensures { result ≡ told self }
-    {
-        let (number, detail) = match self {
-            StoreFault::PlaceBeyond(place) => (11, place.0),
-            StoreFault::CutBeyond(cut) => (12, cut.0),
-            StoreFault::NoRoom(inserted) => (13, inserted.0),
+// The fault as it is told: the layer, the number of the question, and the detail.
+impl From<StoreFault> for Refusal {
+    ghost from_gives = { λ f r. r ≡ told f };
+
+    fn from(fault: StoreFault) -> Refusal {
+        let (number, detail) = match fault {
+            StoreFault::PlaceBeyond(place) => (11, place),
+            StoreFault::CutBeyond(cut) => (12, cut),
+            StoreFault::NoRoom(inserted) => (13, inserted),
         };
         Refusal {
             layer: 1,
             number,
-            detail,
+            detail: detail.get(),
         }
     }
 }

@@ -3,7 +3,8 @@ ghost use Rattle.std.specs.Prelude.{◌≤◌, vec_len};
 
 mod methods;
 
-// The text is the first `len` bytes of the memory; those behind are free.
+// The text is the first `len` bytes of the memory; those behind are free. The length stands beside the memory, since that is handed
+// over and given back whole, with its bytes.
 #[derive(Drop)]
 pub struct FlatStore {
     memory: Vec<u8>,

@@ -3,7 +3,8 @@ ghost use Rattle.std.specs.Prelude.{◌+◌, ◌≤◌, vec_len};
 
 mod methods;
 
-// The text is the memory without its gap, which starts at `gap` and has `free` bytes.
+// The text is the memory without its gap, which starts at `gap` and has `free` bytes. The gap stands beside the memory, since that is
+// handed over and given back whole, with its bytes.
 #[derive(Drop)]
 pub struct GapStore {
     memory: Vec<u8>,

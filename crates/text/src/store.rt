@@ -15,14 +15,31 @@ pub trait TextStore {
     ghost room: { Self → ℕ };
 
     fn capacity(&self) -> ByteCount
-        ensures { result.0 ≡ room self.now };
+        ensures { result ≡ room self.now };
 
     fn len(&self) -> ByteCount
-        ensures { result.0 ≡ length (text self.now) };
+        ensures { result ≡ length (text self.now) };
 
     // The byte at a place, or none at the length and beyond.
     fn byte_at(&self, place: ByteCount) -> Option<u8>
-        ensures { result ≡ slice_get (text self.now) place.0 };
+        ensures { result ≡ slice_get (text self.now) place };
+
+    // Whether a replace would be refused: the three questions, in their order.
+    fn check(&self, place: ByteCount, cut: ByteCount, inserted: ByteCount) -> Result<(), StoreFault>
+        ensures { result_err result ≡ refused (length (text self.now)) (room self.now) place cut inserted }
+    {
+        let len = self.len();
+        if len < place {
+            return Err(StoreFault::PlaceBeyond(place));
+        }
+        if len.get() - place.get() < cut.get() {
+            return Err(StoreFault::CutBeyond(cut));
+        }
+        if self.capacity().get() - (len.get() - cut.get()) < inserted.get() {
+            return Err(StoreFault::NoRoom(inserted));
+        }
+        Ok(())
+    }
 
     // Puts the inserted bytes where the cut ones were. A refusal leaves the whole store as it was.
     fn replace(
@@ -31,32 +48,9 @@ pub trait TextStore {
         cut: ByteCount,
         inserted: &[u8],
     ) -> Result<(), StoreFault>
-        ensures answer { result_err result ≡ refused (length (text self.old)) (room self.old) place.0 cut.0 (length inserted.now) }
-        ensures after { MatchResult result (λ _. text self.new ≡ replaced (text self.old) place.0 cut.0 inserted.now) (λ _. self.new ≡ self.old) }
+        ensures answer { result_err result ≡ refused (length (text self.old)) (room self.old) place cut (length inserted.now) }
+        ensures after { MatchResult result (λ _. text self.new ≡ replaced (text self.old) place cut inserted.now) (λ _. self.new ≡ self.old) }
         ensures capacity { room self.new ≡ room self.old };
 
     ghost fits: { (s : Self) → length (text s) ≤ room s };
-}
-
-// The three questions, in their order.
-pub(crate) fn check(
-    len: ByteCount,
-    capacity: ByteCount,
-    place: ByteCount,
-    cut: ByteCount,
-    inserted: usize,
-) -> Result<(), StoreFault>
-    requires { len.0 ≤ capacity.0 }
-    ensures { result_err result ≡ refused len.0 capacity.0 place.0 cut.0 inserted }
-{
-    if len.0 < place.0 {
-        return Err(StoreFault::PlaceBeyond(place));
-    }
-    if len.0 - place.0 < cut.0 {
-        return Err(StoreFault::CutBeyond(cut));
-    }
-    if capacity.0 - (len.0 - cut.0) < inserted {
-        return Err(StoreFault::NoRoom(ByteCount(inserted)));
-    }
-    Ok(())
 }

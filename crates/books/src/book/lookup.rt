@@ -1,16 +1,16 @@
 // What a scan asks of a book.
-ghost use Rattle.std.specs.Prelude.{◌≡◌, ◌+◌, ◌*◌, ◌<◌, ◌≤◌, length, take, ◌≢◌, slice_index};
-ghost use Rattle.books.specs.Tables.{start_state, closed, step, accept, kind_of, next_mode};
+ghost use Rattle.std.specs.Prelude.{◌≡◌, ◌<◌, length, IfSome};
+ghost use Rattle.books.specs.Tables.{start_state, closed, step, accept, kind_of, next_mode, present};
 ghost use Rattle.books.specs.Meaning.{tables};
 
 use crate::book::Book;
 
-// What stands at a place of a table of that many bytes at the front of an array, or 0 past its end.
-fn entry(array: &[u8], count: usize, place: usize) -> u8
-    requires { count ≤ length array.now }
-    ensures { result ≡ slice_index (take count array.now) place }
+// What a table's byte names: nothing where it is 255.
+#[inline]
+fn present(byte: u8) -> Option<u8>
+    ensures { result ≡ present byte }
 {
-    if place < count { array[place] } else { 0 }
+    if byte == 255 { None } else { Some(byte) }
 }
 
 impl Book {
@@ -19,7 +19,7 @@ impl Book {
         ensures value { result ≡ start_state (tables self.now) mode }
         ensures within { result < length (tables self.now).accepts }
     {
-        entry(&self.copies.start_table, self.copies.modes, mode as usize)
+        self.copies.start_table.entry(mode as usize)
     }
 
     // Whether no code has a step in a state.
@@ -30,43 +30,38 @@ impl Book {
         self.flags[state as usize]
     }
 
-    // The next state at a code, or 255 for none.
-    pub fn step(&self, state: u8, code: u8) -> u8
+    // The next state at a code.
+    #[inline]
+    pub fn step(&self, state: u8, code: u8) -> Option<u8>
         requires { state < length (tables self.now).accepts }
-        ensures value { result ≡ step (tables self.now) state code }
-        ensures within { (result ≢ 255) → result < length (tables self.now).accepts }
+        ensures value { result ≡ present (step (tables self.now) state code) }
+        ensures within { IfSome result (λ s. s < length (tables self.now).accepts) }
     {
         let class = self.copies.class_table[code as usize];
-        self.copies.step_table[state as usize * self.copies.classes + class as usize]
+        let place = state as usize * self.copies.classes + class as usize;
+        present(self.copies.step_table.at(place))
     }
 
-    // The rule that a state accepts, or 255 for none.
-    pub fn accept(&self, state: u8) -> u8
+    // The rule that a state accepts.
+    #[inline]
+    pub fn accept(&self, state: u8) -> Option<u8>
         requires { state < length (tables self.now).accepts }
-        ensures { result ≡ accept (tables self.now) state }
+        ensures { result ≡ present (accept (tables self.now) state) }
     {
-        self.copies.accept_table[state as usize]
+        present(self.copies.accept_table.at(state as usize))
     }
 
     // The kind that a rule gives; 0 for a rule that the book has not.
     pub fn kind(&self, rule: u8) -> u8
         ensures { result ≡ kind_of (tables self.now) rule }
     {
-        entry(
-            &self.copies.rule_table,
-            2 * self.copies.rules,
-            2 * rule as usize,
-        )
+        self.copies.rule_table.entry(2 * rule as usize)
     }
 
     // The mode after a rule; 0 for a rule that the book has not.
     pub fn next_mode(&self, rule: u8) -> u8
         ensures { result ≡ next_mode (tables self.now) rule }
     {
-        entry(
-            &self.copies.rule_table,
-            2 * self.copies.rules,
-            2 * rule as usize + 1,
-        )
+        self.copies.rule_table.entry(2 * rule as usize + 1)
     }
 }

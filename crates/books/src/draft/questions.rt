@@ -1,30 +1,19 @@
-// The questions that a draft has to pass, one function each.
-ghost use Rattle.std.specs.Prelude.{◌≡◌, ℕ, ◌<◌, false, Some, None, MatchResult, slice_index_or};
+// The questions that a draft has to pass, one function each: it answers the first detail that gets a no.
+ghost use Rattle.std.specs.Prelude.{◌≡◌, ℕ, ◌<◌, false, Some, IsNone, MatchResult, slice_index_or};
 ghost use Rattle.books.specs.Tables.{closed};
 ghost use Rattle.books.specs.Sound.{below_or_none};
-ghost use Rattle.books.specs.Check.{counted, first_false};
+ghost use Rattle.books.specs.Check.{counted, kind_and_mode_right, wrong_count, wrong_length, wrong_class, wrong_step, wrong_accept, wrong_rule, wrong_start, start_right, count_fault, fault};
 ghost use Rattle.books.specs.Plans.{plan};
-ghost use Rattle.books.specs.Check.{count_fault, length_fault, class_fault, step_fault, accept_fault, rule_fault, start_fault};
 
 use crate::draft::Draft;
-use crate::fault::BookFault;
-
-// The place of the first no.
-fn first_no(answers: &[bool]) -> Option<usize>
-    ensures { result ≡ first_false answers.now }
-{
-    for (place, answer) in answers.iter().enumerate() {
-        if !*answer {
-            return Some(place);
-        }
-    }
-    None
-}
+use crate::draft::measured::Measured;
+use crate::fault::{BookFault, yes_or};
+use std::array;
 
 fn from_one(count: usize, most: usize) -> bool
     ensures { result ≡ counted count most }
 {
-    1 <= count && count <= most
+    (1..=most).contains(&count)
 }
 
 fn below_or_none(count: usize, byte: u8) -> bool
@@ -33,9 +22,9 @@ fn below_or_none(count: usize, byte: u8) -> bool
     (byte as usize) < count || byte == 255
 }
 
-impl Draft<'_> {
-    pub(crate) fn counts_right(&self) -> Result<(), BookFault>
-        ensures { MatchResult result (λ _. count_fault (plan self.now) ≡ None) (λ f. count_fault (plan self.now) ≡ Some f) }
+impl<'a> Draft<&'a [u8]> {
+    fn wrong_count(self) -> Option<usize>
+        ensures { result ≡ wrong_count (plan self.entry) }
     {
         let answers = [
             from_one(self.states, 128),
@@ -43,15 +32,12 @@ impl Draft<'_> {
             from_one(self.modes, 16),
             from_one(self.rules, 64),
         ];
-        match first_no(&answers) {
-            Some(place) => Err(BookFault::Count(place)),
-            None => Ok(()),
-        }
+        answers.iter().position(|yes| !*yes)
     }
 
-    pub(crate) fn lengths_right(&self) -> Result<(), BookFault>
-        requires { count_fault (plan self.now) ≡ None }
-        ensures { MatchResult result (λ _. length_fault (plan self.now) ≡ None) (λ f. length_fault (plan self.now) ≡ Some f) }
+    fn wrong_length(self) -> Option<usize>
+        requires { IsNone (count_fault (plan self)) }
+        ensures { result ≡ wrong_length (plan self.entry) }
     {
         let answers = [
             self.class_table.len() == 256,
@@ -60,102 +46,97 @@ impl Draft<'_> {
             self.rule_table.len() == 2 * self.rules,
             self.start_table.len() == self.modes,
         ];
-        match first_no(&answers) {
-            Some(place) => Err(BookFault::Length(place)),
-            None => Ok(()),
-        }
+        answers.iter().position(|yes| !*yes)
     }
 
-    pub(crate) fn classes_right(&self) -> Result<(), BookFault>
-        ensures { MatchResult result (λ _. class_fault (plan self.now) ≡ None) (λ f. class_fault (plan self.now) ≡ Some f) }
+    // The draft with its counts and lengths known, or the first of them that is wrong.
+    pub(crate) fn measured(self) -> Result<Measured<'a>, BookFault>
+        ensures { MatchResult result (λ m. m.draft ≡ self.entry) (λ f. fault (plan self.entry) ≡ Some f) }
     {
-        for (code, class) in self.class_table.iter().enumerate() {
-            if *class as usize >= self.classes {
-                return Err(BookFault::Class(code));
-            }
-        }
-        Ok(())
+        yes_or(self.wrong_count(), BookFault::Count)?;
+        yes_or(self.wrong_length(), BookFault::Length)?;
+        Ok(Measured { draft: self })
+    }
+}
+
+impl Measured<'_> {
+    pub(crate) fn wrong_class(&self) -> Option<usize>
+        ensures { result ≡ wrong_class (plan self.now.draft) }
+    {
+        self.draft
+            .class_table
+            .iter()
+            .position(|class| *class as usize >= self.draft.classes)
     }
 
-    pub(crate) fn steps_right(&self) -> Result<(), BookFault>
-        ensures { MatchResult result (λ _. step_fault (plan self.now) ≡ None) (λ f. step_fault (plan self.now) ≡ Some f) }
+    pub(crate) fn wrong_step(&self) -> Option<usize>
+        ensures { result ≡ wrong_step (plan self.now.draft) }
     {
-        for (place, next) in self.step_table.iter().enumerate() {
-            if !below_or_none(self.states, *next) {
-                return Err(BookFault::Step(place));
-            }
-        }
-        Ok(())
+        self.draft
+            .step_table
+            .iter()
+            .position(|next| !below_or_none(self.draft.states, *next))
     }
 
-    pub(crate) fn accepts_right(&self) -> Result<(), BookFault>
-        ensures { MatchResult result (λ _. accept_fault (plan self.now) ≡ None) (λ f. accept_fault (plan self.now) ≡ Some f) }
+    pub(crate) fn wrong_accept(&self) -> Option<usize>
+        ensures { result ≡ wrong_accept (plan self.now.draft) }
     {
-        for (state, rule) in self.accept_table.iter().enumerate() {
-            if !below_or_none(self.rules, *rule) {
-                return Err(BookFault::Accept(state));
-            }
-        }
-        Ok(())
+        self.draft
+            .accept_table
+            .iter()
+            .position(|rule| !below_or_none(self.draft.rules, *rule))
     }
 
-    pub(crate) fn rules_right(&self) -> Result<(), BookFault>
-        requires counts { count_fault (plan self.now) ≡ None }
-        requires lengths { length_fault (plan self.now) ≡ None }
-        ensures { MatchResult result (λ _. rule_fault (plan self.now) ≡ None) (λ f. rule_fault (plan self.now) ≡ Some f) }
+    // Whether a rule may give a kind and a mode: no kind below 2, and a mode that there is.
+    fn is_rule(&self, kind: u8, mode: u8) -> bool
+        ensures { result ≡ kind_and_mode_right (plan self.now.draft) kind mode }
     {
-        for rule in 0..self.rules {
-            let kind = self.rule_table[2 * rule];
-            let mode = self.rule_table[2 * rule + 1];
-            if kind < 2 || mode as usize >= self.modes {
-                return Err(BookFault::Rule(rule));
-            }
-        }
-        Ok(())
+        2 <= kind && (mode as usize) < self.draft.modes
+    }
+
+    pub(crate) fn wrong_rule(&self) -> Option<usize>
+        ensures { result ≡ wrong_rule (plan self.now.draft) }
+    {
+        let (rules, _) = self.draft.rule_table.as_chunks::<2>();
+        rules
+            .iter()
+            .position(|[kind, mode]| !self.is_rule(*kind, *mode))
     }
 
     // Whether no code has a step in a state.
     fn is_closed(&self, state: usize) -> bool
-        requires counts { count_fault (plan self.now) ≡ None }
-        requires lengths { length_fault (plan self.now) ≡ None }
-        requires classes { class_fault (plan self.now) ≡ None }
-        requires within { state < self.now.states }
-        ensures { result ≡ closed (plan self.now).tables state }
+        requires { state < 256 }
+        ensures { result ≡ closed (plan self.now.draft).tables state }
     {
-        let row = state * self.classes;
-        for class in self.class_table {
-            if self.step_table[row + *class as usize] != 255 {
-                return false;
-            }
-        }
-        true
+        let row = state * self.draft.classes;
+        self.draft.class_table.iter().all(|class| {
+            self.draft
+                .step_table
+                .get(row + *class as usize)
+                .is_none_or(|next| *next == 255)
+        })
+    }
+
+    // Whether a mode may start in a state: one that there is and that is not closed.
+    fn is_start(&self, state: u8) -> bool
+        ensures { result ≡ start_right (plan self.now.draft) state }
+    {
+        (state as usize) < self.draft.states && !self.is_closed(state as usize)
+    }
+
+    pub(crate) fn wrong_start(&self) -> Option<usize>
+        ensures { result ≡ wrong_start (plan self.now.draft) }
+    {
+        self.draft
+            .start_table
+            .iter()
+            .position(|state| !self.is_start(*state))
     }
 
     // For each state whether it is closed.
     pub(crate) fn closed_states(&self) -> [bool; 128]
-        requires counts { count_fault (plan self.now) ≡ None }
-        requires lengths { length_fault (plan self.now) ≡ None }
-        requires classes { class_fault (plan self.now) ≡ None }
-        ensures { (s : ℕ) → s < self.now.states → slice_index_or result s false ≡ closed (plan self.now).tables s }
+        ensures { (s : ℕ) → s < 128 → slice_index_or result s false ≡ closed (plan self.now.draft).tables s }
     {
-        let mut flags = [false; 128];
-        for state in 0..self.states {
-            flags[state] = self.is_closed(state);
-        }
-        flags
-    }
-
-    pub(crate) fn starts_right(&self, flags: &[bool; 128]) -> Result<(), BookFault>
-        requires counts { count_fault (plan self.now) ≡ None }
-        requires flagged { (s : ℕ) → s < self.now.states → slice_index_or flags.now s false ≡ closed (plan self.now).tables s }
-        ensures { MatchResult result (λ _. start_fault (plan self.now) ≡ None) (λ f. start_fault (plan self.now) ≡ Some f) }
-    {
-        for (mode, start) in self.start_table.iter().enumerate() {
-            let state = *start as usize;
-            if state >= self.states || flags[state] {
-                return Err(BookFault::Start(mode));
-            }
-        }
-        Ok(())
+        array::from_fn(|state| self.is_closed(state))
     }
 }

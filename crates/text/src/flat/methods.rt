@@ -4,12 +4,12 @@ ghost use Rattle.std.specs.Result.{result_err};
 ghost use Rattle.text.specs.Layout.{front, flat_text};
 ghost use Rattle.text.specs.Refused.{refused};
 ghost use Rattle.text.specs.Replaced.{replaced};
-ghost use Rattle.std.proofs.Common.{rules, arith};
+ghost use Rattle.std.proofs.Common.{arith, length-take};
 
 use super::FlatStore;
 use crate::fault::StoreFault;
 use crate::moves::{put, slide};
-use crate::store::{TextStore, check};
+use crate::store::TextStore;
 use counts::ByteCount;
 
 impl FlatStore {
@@ -36,22 +36,18 @@ impl TextStore for FlatStore {
 
     ghost room = { λ s. vec_len s.memory };
 
-    ghost fits = { first_of (Prim.search rules, Prim.grind (arith, Self.row.coded.inj)) };
+    ghost fits = { λ s. simp length-take (omega arith) };
 
     fn capacity(&self) -> ByteCount {
-        ByteCount(self.memory.len())
+        ByteCount::of(self.memory.len())
     }
 
     fn len(&self) -> ByteCount {
-        ByteCount(self.len)
+        ByteCount::of(self.len)
     }
 
     fn byte_at(&self, place: ByteCount) -> Option<u8> {
-        if place.0 < self.len {
-            Some(self.memory[place.0])
-        } else {
-            None
-        }
+        self.memory[..self.len].get(place.get()).copied()
     }
 
     // After every replace, taken or refused, the text is at the front of the memory.
@@ -61,23 +57,17 @@ impl TextStore for FlatStore {
         cut: ByteCount,
         inserted: &[u8],
     ) -> Result<(), StoreFault>
-        ensures answer { result_err result ≡ refused (length (flat_text self.old)) (vec_len self.old.memory) place.0 cut.0 (length inserted.now) }
-        ensures after { MatchResult result (λ _. flat_text self.new ≡ replaced (flat_text self.old) place.0 cut.0 inserted.now) (λ _. self.new ≡ self.old) }
+        ensures answer { result_err result ≡ refused (length (flat_text self.old)) (vec_len self.old.memory) place cut (length inserted.now) }
+        ensures after { MatchResult result (λ _. flat_text self.new ≡ replaced (flat_text self.old) place cut inserted.now) (λ _. self.new ≡ self.old) }
         ensures capacity { vec_len self.new.memory ≡ vec_len self.old.memory }
         ensures front { front (length (flat_text self.new)) self.new.memory.items ≡ flat_text self.new }
     {
-        check(self.len(), self.capacity(), place, cut, inserted.len())?;
-        splice(&mut self.memory, self.len, place.0, cut.0, inserted);
-        self.len = self.len - cut.0 + inserted.len();
+        self.check(place, cut, ByteCount::of(inserted.len()))?;
+        let (place, cut) = (place.get(), cut.get());
+        let memory = self.memory.as_mut_slice();
+        slide(memory, place + cut, self.len, place + inserted.len());
+        put(memory, place, inserted);
+        self.len = self.len - cut + inserted.len();
         Ok(())
     }
-}
-
-// Puts the bytes in place of the cut ones in a text of `len` bytes at the memory's front. Moves only what lies behind the cut.
-fn splice(memory: &mut [u8], len: usize, place: usize, cut: usize, bytes: &[u8])
-    requires { (place + cut ≤ len) × (len ≤ length memory.old) × (len - cut + length bytes.now ≤ length memory.old) }
-    ensures { front (len - cut + length bytes.now) memory.new ≡ replaced (front len memory.old) place cut bytes.now }
-{
-    slide(memory, place + cut, len, place + bytes.len());
-    put(memory, place, bytes);
 }

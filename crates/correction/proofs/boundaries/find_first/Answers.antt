@@ -1,54 +1,39 @@
-use Rattle.std.proofs.Common.{◌<◌, length, sym, refl, ap, ◌∙◌, arith}
-use Rattle.std.proofs.lemmas.List.{length-map}
-use Rattle.reading.specs.Reading.{start, reach}
+use Rattle.std.proofs.Common.{◌≡◌, ◌<◌, length, ◌∙◌, sym, ap, arith}
+use Rattle.std.proofs.lemmas.List.{get_or_read}
+use Rattle.reading.specs.Reading.{none, at, reach}
 use Rattle.reading.specs.Report.{first}
-use Rattle.reading.specs.Laws.{mode_before}
-use Rattle.reading.proofs.Lists.{mode_before_more}
-use Rattle.reading.proofs.Split.{start_zero}
-use Rattle.reading.proofs.First.{short_none, short_more}
-use Rattle.scanner.specs.Numbers.{numbers, numbered}
-use Rattle.scanner.proofs.Starts.{numbered_at}
-use Rattle.correction.proofs.Sums.{read_at, sum_start, sum_reach, first_found}
+use Rattle.reading.proofs.First.{short_more}
+use Rattle.scanner.proofs.Starts.{sum_reach}
+use Rattle.correction.proofs.Sums.{stands_next, first_found}
 use Rattle.correction.proofs.boundaries.find_first.Goals as goal
-use Rattle.correction.proofs.boundaries.find_first.Goals.{then-loop-number-test+else-saturating_add-place, else-loop-number-test}
+use Rattle.correction.proofs.boundaries.find_first.Goals.{else-loop-entry-test, then-loop-entry-test+then-place-far}
 
-pub loop-number-init : goal.loop-number-init
-loop-number-init g c =
-    let es = numbered g.L.Count.number g.B.Count.number c.args.entries.now in
-    (omega arith, refl {a = mode_before es 0}, λ fit. (sym (start_zero es), short_none es _))
-
-pub loop-number-preserved : goal.loop-number-preserved
-loop-number-preserved g c =
-    let p = c.loop-number.number in
-    let es = numbered g.L.Count.number g.B.Count.number c.args.entries.now in
-    let e = read_at g.L.Count.number g.B.Count.number c.args.entries.now p c.index-entries-number-in-loop-number.result (omega arith) c.index-entries-number-in-loop-number.is in
-    let f = numbered_at g.L.Count.number g.B.Count.number c.args.entries.now p c.index-entries-number.result (omega arith) in (
+pub loop-entry-preserved : goal.loop-entry-preserved
+loop-entry-preserved g c =
+    let es = c.args.entries.now in
+    let here = c.loop-entry.at in
+    let x = c.entry-item.result in
+    let is : at es here.number ≡ x = ap (at es) c.loop-entry.invariant.0 ∙ sym (get_or_read es c.loop-entry.entry-index x c.loop-entry-test.true c.entry-item.is none) in
+    let next = c.next-at.ensures in (
       omega arith,
-      sym (mode_before_more es p ∙ ap (λ x. x.mode) e),
       λ fit.
-          let so_far = c.loop-number.invariant.2 fit in
-          let far = sum_reach es fit p c.loop-number.start so_far.0 c.get.result c.saturating_add.result (ap (λ x. x.reading) f ∙ sym c.get.ensures) c.saturating_add.ensures in (
-            sum_start es fit p c.loop-number.start so_far.0 c.get-in-loop-number.result _ (ap (λ x. x.length) e ∙ sym c.get-in-loop-number.ensures) c.saturating_add-start.ensures,
-            short_more es p _ so_far.1 (omega (arith, far)),
+          let so_far = c.loop-entry.invariant.1 fit in
+          let reads = sum_reach es fit here.number here.start so_far.0.0 x.reading c.reach-far.result (ap (λ y. y.reading) is) c.reach-far.ensures in (
+            stands_next es fit (record { at = here; mode = c.loop-entry.mode }) (record { at = c.next-at.result; mode = c.entry.inside.mode }) so_far.0 x is next.number next.start (ap (λ e. e.mode) c.entry.view_is),
+            λ i h. short_more es here.number c.get-place.result so_far.1 (omega (arith, reads)) i (omega arith),
           ),
     )
 
-pub returns : goal.returns
-returns g c =
-    let p = c.loop-number.number in
-    let es = numbered g.L.Count.number g.B.Count.number c.args.entries.now in
-    record {
-      within = omega arith;
-      first = λ fit.
-          let all = c.loop-number.invariant.2 fit in
-          let reads : p < length es → c.get-place.result < reach es p = λ h. elim c.loop-number-test.branch [
-            | then-loop-number-test+else-saturating_add-place w ↦
-                let f = numbered_at g.L.Count.number g.B.Count.number c.args.entries.now p w.index-entries-number.result (omega (arith, w.loop-number-test.true)) in
-                omega (arith, sum_reach es fit p c.loop-number.start all.0 w.get.result w.saturating_add.result (ap (λ x. x.reading) f ∙ sym w.get.ensures) w.saturating_add.ensures, w.if-saturating_add-place.false)
-            | else-loop-number-test w ↦ absurd (omega (arith, w.loop-number-test.false, length-map c.args.entries.now (numbers g.L.Count.number g.B.Count.number)))
-          ] in
-          let found = first_found es p c.get-place.result all.1 (omega (arith, length-map c.args.entries.now (numbers g.L.Count.number g.B.Count.number))) reads in (
-            c.of.ensures ∙ found ∙ ap (first es) c.get-place.ensures,
-            (c.of-2.ensures ∙ all.0 ∙ ap (start es) (sym c.of.ensures), c.loop-number.invariant.1 ∙ ap (mode_before es) (sym c.of.ensures)),
-          );
-    }
+pub returns-clause-first : goal.returns-clause-first
+returns-clause-first g c fit =
+    let es = c.args.entries.now in
+    let n = c.loop-entry.at.number in
+    let all = c.loop-entry.invariant.1 fit in
+    let reads : n < length es → c.get-place.result < reach es n = λ h. elim c.loop-entry-test.branch [
+      | else-loop-entry-test w ↦ absurd (omega (arith, w.loop-entry-test.false))
+      | then-loop-entry-test+then-place-far w ↦
+          let x = w.entry-item.result in
+          let is : at es n ≡ x = ap (at es) c.loop-entry.invariant.0 ∙ sym (get_or_read es c.loop-entry.entry-index x w.loop-entry-test.true w.entry-item.is none) in
+          omega (arith, sum_reach es fit n c.loop-entry.at.start all.0.0 x.reading w.reach-far.result (ap (λ y. y.reading) is) w.reach-far.ensures, w.if-place-far.true)
+    ] in
+    (first_found es n c.get-place.result all.1 (omega arith) reads ∙ ap (first es) c.get-place.ensures, all.0)

@@ -1,17 +1,10 @@
-use Rattle.std.proofs.Common.{◌≡◌, ◌-◌, ◌≤◌, length}
-use Rattle.reading.specs.Reading.{start}
-use Rattle.reading.specs.Laws.{mode_before}
-use Rattle.scanner.specs.Numbers.{numbered}
+use Rattle.std.proofs.Common.{◌≡◌, ◌+◌}
 use Rattle.scanner.specs.Spots.{Fit}
+use Rattle.correction.specs.Boundaries.{Stands}
 use Rattle.correction.proofs.Sums.{Passing}
 use Rattle.correction.proofs.boundaries.pass.Given as goal
 
-abbrev pub invariant-loop-number : goal.invariant-loop-number
-invariant-loop-number g l =
-    let es = numbered g.L.Count.number g.B.Count.number l.entries in
-    (l.initial.number ≤ l.number) × (l.initial.number ≤ length l.entries → l.number ≤ length l.entries) ×
-    (Fit es → (l.initial.start ≡ start es l.initial.number) → (l.initial.mode ≡ mode_before es l.initial.number) →
-    (l.start ≡ start es l.number) × (l.mode ≡ mode_before es l.number) × Passing es l.initial.number l.place l.initial.reach l.number l.reach)
-
-abbrev pub decreases-loop-number : goal.decreases-loop-number
-decreases-loop-number g l = length l.entries - l.number
+abbrev pub invariant-loop-entry : goal.invariant-loop-entry
+invariant-loop-entry g l =
+    (l.at.number ≡ l.fn.from.to.at.number + l.entry-index) ×
+    (Fit l.entries → Stands l.entries l.fn.from.to → Stands l.entries (record { at = l.at; mode = l.mode }) × Passing l.entries l.fn.from.to.at.number l.place l.fn.from.reach l.at.number l.reach)

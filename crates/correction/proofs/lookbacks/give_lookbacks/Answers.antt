@@ -1,10 +1,8 @@
-use Rattle.std.proofs.Common.{◌≡◌, ◌+◌, ◌-◌, ◌<◌, ◌≤◌, ◌⊎◌, length, take, sym, refl, ap, ◌∙◌, subst, inl, inr, arith}
-use Rattle.std.proofs.lemmas.List.{length-map, take-set-le}
-use Rattle.scanner.specs.Numbers.{numbers, numbered}
-use Rattle.scanner.proofs.Starts.{start_is}
+use Rattle.std.proofs.Common.{◌≡◌, ◌+◌, ◌-◌, ◌<◌, ◌≤◌, ◌⊎◌, length, refl, sym, ap, ◌∙◌, inl, inr, arith}
+use Rattle.std.proofs.lemmas.List.{take-set-le, get_or_default}
+use Rattle.reading.specs.Reading.{none}
 use Rattle.reading.proofs.Giving.{giving_length}
-use Rattle.correction.specs.Lookbacks.{Awaits}
-use Rattle.correction.proofs.Gives.{Turning, turning_begins, turning_written, turning_ends}
+use Rattle.correction.proofs.Gives.{turning_begins, turning_written, turning_ends}
 use Rattle.correction.proofs.lookbacks.give_lookbacks.Goals as goal
 use Rattle.correction.proofs.lookbacks.give_lookbacks.Goals.{then-get-lookback, else-get-lookback, else-loop-number-test, then-loop-number-test+then-beyond}
 
@@ -12,48 +10,42 @@ pub loop-number-init : goal.loop-number-init
 loop-number-init g c = (
   omega arith,
   omega arith,
-  refl {a = take c.get-number.result c.args.entries.now},
-  λ new r s k a. turning_begins _ new _ _ _ a c.get-number.result c.get-start.result refl (omega arith) s _ r k,
+  omega arith,
+  refl,
+  λ new r s k a. turning_begins _ new _ _ _ a c.get-from.result c.args.first.start c.get-from.ensures (omega arith) s _ r k,
 )
-
-pub follow-next-requires : goal.follow-next-requires
-follow-next-requires g c = record { within = omega arith; behind = omega arith }
 
 pub loop-number-preserved : goal.loop-number-preserved
 loop-number-preserved g c =
-    let l = g.L.Count.number in
-    let b = g.B.Count.number in
+    let now = c.loop-number.entries in
     let i = c.loop-number.number in
-    let way : ((c.get-in-loop-number.result ≡ i - c.get.result) × (c.if-get-lookback.changed ≡ c.loop-number.changed)) ⊎ ((c.get-in-loop-number.result ≡ i - c.get.result → ⊥) × (c.if-get-lookback.changed ≡ i + 1)) =
-    elim c.if-get-lookback.branch [ then-get-lookback w ↦ inr (w.if-get-lookback.true, w.changed-is) | else-get-lookback w ↦ inl (w.if-get-lookback.false, w.changed-is) ] in (
-      omega (arith, c.follow-next.ensures.behind),
+    let here = c.loop-number.invariant.0 in
+    let read = c.get-in-loop-number-2.ensures in
+    let put = c.of-entry-inside.ensures in
+    let way : ((c.entry.inside.lookback ≡ c.of-entry-inside.result) × (c.if-get-lookback.changed ≡ c.loop-number.changed)) ⊎ ((c.entry.inside.lookback ≡ c.of-entry-inside.result → ⊥) × (c.if-get-lookback.changed ≡ i + 1)) =
+    elim c.if-get-lookback.branch [
+      | then-get-lookback w ↦ inr ((λ s. w.if-get-lookback.true (read ∙ s ∙ put)), w.changed-is)
+      | else-get-lookback w ↦ inl (sym read ∙ w.if-get-lookback.false ∙ sym put, w.changed-is)
+    ] in (
+      omega (arith, here, c.next-spot.ensures.number),
+      omega (arith, here, c.advance-reader.ensures.behind),
       elim c.if-get-lookback.branch [ then-get-lookback w ↦ omega (arith, w.changed-is) | else-get-lookback w ↦ omega (arith, w.changed-is) ],
-      take-set-le c.get-number.result c.loop-number.entries i _ (omega arith) ∙ c.loop-number.invariant.2,
+      take-set-le c.args.first.number now i _ (omega arith) ∙ c.loop-number.invariant.3,
       λ new r s k a.
-          turning_written l b _ new _ _ _ a c.loop-number.entries i c.loop-number.start _ _ c.loop-number.changed (c.loop-number.invariant.3 new r s k a) (omega arith)
-          (b c.of.result) (l c.of-in-loop-number.result) (b c.follow-next.result.number) (l c.follow-next.result.start) c.of.ensures c.of-in-loop-number.ensures c.follow-next.ensures.follows
-          c.index-entries-number-in-loop-number.result c.index-entries-number.result c.index-entries-number-in-loop-number-2.result c.saturating_add-start.result c.get-in-loop-number-2.result c.get.result c.get-in-loop-number.result
-          c.saturating_add-start.ensures c.get-in-loop-number-2.ensures c.of-in-loop-number-2.result c.of-in-loop-number-2.ensures c.get.ensures c.get-in-loop-number.ensures c.if-get-lookback.changed way,
+          turning_written _ new _ _ _ a now i c.loop-number.spot.start c.loop-number.reader.number c.loop-number.reader.start c.loop-number.changed (c.loop-number.invariant.4 new r s k a) (omega arith)
+          c.loop-number.spot.number c.advance-reader.result.number c.advance-reader.result.start here c.advance-reader.ensures.follows
+          _ (sym (c.entry.view_is ∙ get_or_default now i c.index-entries-number.result none (omega arith))) c.next-spot.result.start c.of-entry-inside.result c.next-spot.ensures.start
+          (c.of-entry-inside.ensures ∙ ap (λ n. i - n) c.get-in-loop-number.ensures) c.if-get-lookback.changed way,
     )
 
-pub returns : goal.returns
-returns g c =
-    let l = g.L.Count.number in
-    let b = g.B.Count.number in
-    let put = numbered l b c.args.entries.now in
-    let now = numbered l b c.loop-number.entries in
-    record {
-      head = subst (λ n. take n c.loop-number.entries ≡ take n c.args.entries.now) c.get-number.ensures c.loop-number.invariant.2;
-      given = λ new r s a.
-          let begun : Awaits put new c.get-number.result (b c.args.reader.number) = subst (λ n. Awaits put new n (b c.args.reader.number)) (sym c.get-number.ensures) a in
-          let all : Turning put new (b c.args.kept) now c.loop-number.number c.loop-number.start (b c.loop-number.reader.number) (l c.loop-number.reader.start) c.loop-number.changed =
-          c.loop-number.invariant.3 new r (start_is put _ _ _ _ c.get-start.ensures s c.get-number.ensures) (omega arith) begun in
-          let count = giving_length new put a.alike now c.loop-number.number (b c.loop-number.reader.number) all.giving in
-          let size = length-map c.loop-number.entries (numbers l b) in
-          let enough : c.loop-number.number < length new → l c.args.limit ≤ c.loop-number.start = λ h. elim c.loop-number-test.branch [
-            | else-loop-number-test w ↦ absurd (omega (arith, count, size, w.loop-number-test.false))
-            | then-loop-number-test+then-beyond w ↦ omega (arith, w.if-beyond.true)
-          ] in
-          turning_ends put new (b c.args.kept) _ _ begun now c.loop-number.number c.loop-number.start (b c.loop-number.reader.number) (l c.loop-number.reader.start) c.loop-number.changed all (l c.args.limit) (b c.args.first.number) (omega (arith, c.loop-number.auto.number)) (omega (arith, count, size, c.loop-number.auto.number-end (omega arith))) enough
-          (b c.of-2.result) (c.of-2.ensures ∙ c.saturating_sub.ensures ∙ ap (λ n. c.loop-number.changed - n) c.get-2.ensures);
-    }
+pub returns-clause-given : goal.returns-clause-given
+returns-clause-given g c new r s a =
+    let all = c.loop-number.invariant.4 new r s (omega arith) a in
+    let count = giving_length new c.args.entries.now a.alike c.loop-number.entries c.loop-number.number c.loop-number.reader.number all.giving in
+    let enough : c.loop-number.number < length new → c.args.limit ≤ c.loop-number.spot.start = λ h. elim c.loop-number-test.branch [
+      | else-loop-number-test w ↦ absurd (omega (arith, count, w.loop-number-test.false))
+      | then-loop-number-test+then-beyond w ↦ omega (arith, w.if-beyond.true)
+    ] in
+    turning_ends c.args.entries.now new c.args.kept c.args.first.number c.args.reader.number a c.loop-number.entries c.loop-number.number c.loop-number.spot.start c.loop-number.reader.number c.loop-number.reader.start c.loop-number.changed all
+    c.args.limit c.args.first.number (omega (arith, c.loop-number.auto.number)) (omega (arith, count, c.loop-number.auto.number-end (omega arith))) enough
+    c.of.result (c.of.ensures ∙ c.saturating_sub.ensures ∙ ap (λ n. c.loop-number.changed - n) c.get-2.ensures)

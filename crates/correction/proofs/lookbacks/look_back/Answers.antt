@@ -1,25 +1,25 @@
-use Rattle.std.proofs.Common.{◌≡◌, ◌+◌, ◌-◌, ap, arith}
-use Rattle.reading.specs.Reading.{start, at}
-use Rattle.reading.proofs.Lists.{start_more}
-use Rattle.scanner.specs.Numbers.{numbered}
-use Rattle.scanner.proofs.Starts.{numbered_at, start_is}
+use Rattle.std.proofs.Common.{◌≡◌, ◌+◌, ◌-◌, drop, sym, ap, ◌∙◌, arith}
+use Rattle.std.proofs.lemmas.List.{length-take, length-drop}
+use Rattle.reading.specs.Reading.{start}
+use Rattle.reading.proofs.Lists.{start_more, start_up}
+use Rattle.scanner.proofs.Starts.{at_part}
 use Rattle.correction.proofs.lookbacks.look_back.Goals as goal
 
-pub loop-number-preserved : goal.loop-number-preserved
-loop-number-preserved g c =
-    let p = c.loop-number.number - 1 in
-    let es = numbered g.L.Count.number g.B.Count.number c.args.entries.now in
-    let e = numbered_at g.L.Count.number g.B.Count.number c.args.entries.now p c.index-entries-number-in-loop-number.result (omega arith) in
-    let next : p + 1 ≡ c.loop-number.number = omega arith in
-    (omega arith, omega arith, λ h. omega (arith, c.loop-number.invariant.2 h, start_more es p, ap (start es) next, ap (λ x. x.length) e))
+pub loop-entry-preserved : goal.loop-entry-preserved
+loop-entry-preserved g c stands =
+    let es = c.args.entries.now in
+    let f = c.saturating_sub-first.result in
+    let k = c.loop-entry.entry-index in
+    let is = at_part es f c.number-number.result k c.entry-item.result c.loop-entry-test.true c.entry-item.is ∙ sym c.entry-in-loop-entry.view_is in
+    let next : f + (k + 1) ≡ f + k + 1 = omega arith in
+    omega (arith, c.loop-entry.invariant stands, ap (λ e. e.length) is, start_more es (f + k), ap (start es) next, start_up es f (f + k) (omega arith))
 
-pub returns : goal.returns
-returns g c =
-    let p = c.index-number.result in
-    let es = numbered g.L.Count.number g.B.Count.number c.args.entries.now in
-    let e = numbered_at g.L.Count.number g.B.Count.number c.args.entries.now p c.index-entries-number.result (omega arith) in
-    let here : c.index-number.result ≡ g.B.Count.number c.args.from.now.number = c.index-number.ensures in
-    record {
-      number = omega (arith, ap (λ x. x.lookback) e, ap (λ n. (at es n).lookback) here);
-      stands = λ s. start_is es _ _ _ _ c.of-2.ensures (c.loop-number.invariant.2 (start_is es _ _ _ _ c.place-start.ensures s here)) c.of.ensures;
-    }
+pub returns-clause-stands : goal.returns-clause-stands
+returns-clause-stands g c stands =
+    let es = c.args.entries.now in
+    let f = c.saturating_sub-first.result in
+    let k = c.loop-entry.entry-index in
+    let n = c.number-number.result in
+    let long = length-take (n - f) (drop f es) in
+    let all : f + k ≡ c.args.from.now.at.number = omega (arith, long, length-drop f es, c.loop-entry.auto.entry-index-end, c.loop-entry-test.false) in
+    omega (arith, c.loop-entry.invariant stands, ap (start es) all, stands, start_up es f (f + k) (omega arith), ap (start es) c.of.ensures)

@@ -1,13 +1,8 @@
-use Rattle.std.proofs.Common.{◌≡◌, ◌≤◌}
+use Rattle.std.proofs.Common.{◌≡◌, ◌+◌, ◌-◌}
 use Rattle.reading.specs.Reading.{start}
-use Rattle.scanner.specs.Numbers.{numbered}
+use Rattle.scanner.specs.Spots.{Stands}
 use Rattle.correction.proofs.lookbacks.look_back.Given as goal
 
-abbrev pub invariant-loop-number : goal.invariant-loop-number
-invariant-loop-number g l =
-    let es = numbered g.L.Count.number g.B.Count.number l.entries in
-    (l.last ≤ l.number) × (l.number ≤ l.initial.number) ×
-    (l.initial.start ≡ start es l.initial.number → l.start ≡ start es l.number)
-
-abbrev pub decreases-loop-number : goal.decreases-loop-number
-decreases-loop-number g l = l.number
+abbrev pub invariant-loop-entry : goal.invariant-loop-entry
+invariant-loop-entry g l =
+    Stands l.fn.entries l.fn.from.at → l.start ≡ l.fn.from.at.start - (start l.fn.entries (l.first + l.entry-index) - start l.fn.entries l.first)

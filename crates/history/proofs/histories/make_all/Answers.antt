@@ -1,10 +1,11 @@
 use Rattle.std.proofs.Common.{◌≡◌, [], map, length, vec_items, ap, subst, arith}
+use Rattle.std.proofs.lemmas.List.{nil_from_length}
 use Rattle.books.specs.Meaning.{tables}
 use Rattle.requests.specs.Plain.{asked, answered}
 use Rattle.requests.specs.Sheets.{History}
 use Rattle.sheet.specs.Lists.{tokens_of, lines_of}
 use Rattle.std.specs.Vec.Iter.{into_iter_items}
-use Rattle.history.proofs.Going.{Going, going_none, going_more, going_all, no_items}
+use Rattle.history.proofs.Going.{Going, going_none, going_more, going_all}
 use Rattle.history.proofs.histories.make_all.Goals as goal
 
 pub push_reserved-requires : goal.push_reserved-requires
@@ -39,9 +40,9 @@ returns g c =
     let k = c.loop-request.sheet in
     let go = c.loop-request.invariant.2 in
     let left = into_iter_items c.loop-request.request-iterator in
-    let none : left ≡ [] = no_items left (omega (arith, c.in-None.ensures.steps.0, c.loop-request.request-iterator.rest.ok.0)) in
+    let none : left ≡ [] = nil_from_length left (omega (arith, c.in-None.ensures.steps.0, c.loop-request.request-iterator.rest.ok.0)) in
     record {
-      history = subst (λ rs. History (tables h.token_book) (tables h.line_book) (room h.store) (text h.store) (map asked rs) (map answered (vec_items c.loop-request.answers)) (text k.store) (tokens_of k) (lines_of k)) c.into_iter-request-iterator.ensures.into_iter_gives.0
+      history = subst (λ rs. History (tables h.tokens.book) (tables h.lines.book) (room h.store) (text h.store) (map asked rs) (map answered (vec_items c.loop-request.answers)) (text k.store) (tokens_of k) (lines_of k)) c.into_iter-request-iterator.ensures.into_iter_gives.0
           (going_all text room h _ k c.loop-request.answers c.loop-request.yielded left go none);
       room = go.same_room;
       kept = go.kept;

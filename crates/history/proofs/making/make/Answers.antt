@@ -16,7 +16,7 @@ returns-in-Token g c =
     record {
       room = refl;
       kept = record { token_book = refl; line_book = refl; token_memory = refl; line_memory = refl };
-      made = λ ok. asked_as h h s s room (asked c.args.request) _ _ (ap asked c.in-Token.is) (made_token h s room ok c.in-Token.number.0 _ c.token.ensures);
+      made = λ ok. asked_as h h s s room (asked c.args.request) _ _ (ap asked c.in-Token.is) (made_token h s room ok c.in-Token.number _ c.token.ensures);
     }
 
 pub returns-in-Line : goal.returns-in-Line
@@ -27,7 +27,7 @@ returns-in-Line g c =
     record {
       room = refl;
       kept = record { token_book = refl; line_book = refl; token_memory = refl; line_memory = refl };
-      made = λ ok. asked_as h h s s room (asked c.args.request) _ _ (ap asked c.in-Line.is) (made_line h s room ok c.in-Line.number.0 _ c.line.ensures);
+      made = λ ok. asked_as h h s s room (asked c.args.request) _ _ (ap asked c.in-Line.is) (made_line h s room ok c.in-Line.number _ c.line.ensures);
     }
 
 pub returns-in-Where : goal.returns-in-Where
@@ -38,7 +38,7 @@ returns-in-Where g c =
     record {
       room = refl;
       kept = record { token_book = refl; line_book = refl; token_memory = refl; line_memory = refl };
-      made = λ ok. asked_as h h s s room (asked c.args.request) _ _ (ap asked c.in-Where.is) (made_where h s room ok c.in-Where.place.0 _ c.find.ensures);
+      made = λ ok. asked_as h h s s room (asked c.args.request) _ _ (ap asked c.in-Where.is) (made_where h s room ok c.in-Where.place _ c.find.ensures);
     }
 
 pub returns-in-Time : goal.returns-in-Time
@@ -49,7 +49,7 @@ returns-in-Time g c =
     record {
       room = refl;
       kept = record { token_book = refl; line_book = refl; token_memory = refl; line_memory = refl };
-      made = λ ok. asked_as h h s s room (asked c.args.request) _ _ (ap asked c.in-Time.is) (made_time h s room ok c.in-Time.number.0 _ c.time.ensures);
+      made = λ ok. asked_as h h s s room (asked c.args.request) _ _ (ap asked c.in-Time.is) (made_time h s room ok c.in-Time.number _ c.time.ensures);
     }
 
 pub returns-in-Alike : goal.returns-in-Alike
@@ -60,7 +60,7 @@ returns-in-Alike g c =
     record {
       room = refl;
       kept = record { token_book = refl; line_book = refl; token_memory = refl; line_memory = refl };
-      made = λ ok. asked_as h h s s room (asked c.args.request) _ _ (ap asked c.in-Alike.is) (made_alike h s room ok c.in-Alike.a.0 c.in-Alike.b.0 _ c.alike.ensures);
+      made = λ ok. asked_as h h s s room (asked c.args.request) _ _ (ap asked c.in-Alike.is) (made_alike h s room ok c.in-Alike.a c.in-Alike.b _ c.alike.ensures);
     }
 
 pub returns-in-Copy : goal.returns-in-Copy
@@ -68,7 +68,7 @@ returns-in-Copy g c =
     let h = c.args.sheet.now in
     let s = g.S.TextStore.text h.store in
     let room = g.S.TextStore.room h.store in
-    let n = c.in-Copy.token.0 in
+    let n = c.in-Copy.token in
     let items = with_items_is c.in-Copy.buffer c.copy-count.new.buffer (c.copy-count.auto.buffer ∙ c.as_mut_slice.ensures.len) in
     record {
       room = refl;
@@ -91,8 +91,8 @@ returns-in-Correct g c =
       kept = c.correct.ensures.kept;
       made = λ ok.
           let i = c.as_slice.result.now in
-          let p = c.in-Correct.place.0 in
-          let n = c.in-Correct.cut.0 in
+          let p = c.in-Correct.place in
+          let n = c.in-Correct.cut in
           let after = MatchResult-weaker c.correct.result c.correct.ensures.after (λ x e. e) (λ y e. (e, ap (λ z. g.S.TextStore.text z.store) e)) in
           let right = MatchResult-weaker c.correct.result (c.correct.ensures.right ok) (λ x q. (subst (λ m. Right k u m) c.correct.ensures.room q.0, q.1)) (λ y q. tt) in
           asked_as h k s u room (asked c.args.request) (correct p n i) _ (ap asked c.in-Correct.is ∙ ap (correct p n) (sym c.as_slice.ensures.value))

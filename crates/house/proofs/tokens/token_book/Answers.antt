@@ -1,6 +1,5 @@
 -- The check asks all its questions of these tables and says yes, by computation. What is promised of the tables holds of the book that has them.
-use Rattle.std.proofs.Common.{is_some, sym, ap, subst}
-use Rattle.std.proofs.lemmas.Bool.{false≢true}
+use Rattle.std.proofs.Common.{refl, sym, subst}
 use Rattle.books.specs.Check.{fault}
 use Rattle.house.specs.House.{house_tokens}
 use Rattle.house.specs.Meaning.{ClassesRight, TokensByRules, StepsWhileMatching}
@@ -9,14 +8,14 @@ use Rattle.house.proofs.Sheets.{worked_sheets}
 use Rattle.house.proofs.TokenMeaning.{classes_right, rules_apart, tokens_by_rules, steps_while_matching}
 use Rattle.house.proofs.tokens.token_book.Goals as goal
 
-pub unreachable-requires : goal.unreachable-requires
+pub sound-requires : goal.sound-requires
 unfolding fault
-unreachable-requires c = false≢true (ap is_some c.in-Err.ensures)
+sound-requires c = refl
 
 pub returns : goal.returns
 unfolding house_tokens
 returns c =
-    let value = c.in-Ok.ensures.1 in
+    let value = c.sound.ensures in
     record {
       value = value;
       classes = subst ClassesRight (sym value) classes_right;

@@ -1,7 +1,6 @@
 use Rattle.std.proofs.Common.{◌≡◌, ◌-◌, ◌^◌, min}
 use Rattle.reading.specs.Reading.{start}
-use Rattle.scanner.specs.Numbers.{numbered}
 use Rattle.questions.proofs.starts.start_of.Given as goal
 
 abbrev pub invariant-loop-entry : goal.invariant-loop-entry
-invariant-loop-entry g l = l.sum ≡ min (start (numbered g.L.Count.number g.B.Count.number l.entries) l.entry-index) (2 ^ 64 - 1)
+invariant-loop-entry g l = l.sum ≡ min (start l.entries l.entry-index) (2 ^ 64 - 1)

@@ -1,56 +1,57 @@
-use Rattle.std.proofs.Common.{length, refl, arith}
+use Rattle.std.proofs.Common.{◌≡◌, length, ap, ap₂, ◌∙◌, arith}
 use Rattle.books.specs.Meaning.{tables}
 use Rattle.books.proofs.Facts.{book_sound}
-use Rattle.reading.specs.Reading.{batch}
+use Rattle.reading.specs.Reading.{read, batch}
 use Rattle.reading.proofs.Batch.{reads, looks_back}
-use Rattle.scanner.proofs.Whole.{stands_first, answer_some, answer_none, whole_fit, whole_part, whole_size, whole_list, whole_rest, whole_within}
+use Rattle.scanner.proofs.Whole.{Pass, answer_some, whole_fit, whole_part, whole_size, whole_list, whole_rest, whole_within}
+use Rattle.scanner.proofs.lists.read_all.Given as given
 use Rattle.scanner.proofs.lists.read_all.Goals as goal
 
-pub returns-then-memory-get : goal.returns-then-memory-get
-returns-then-memory-get g c =
-    let codes = g.S.Symbols.codes c.args.symbols.now in
-    let t = tables c.args.book.now in
-    let sound = book_sound c.args.book.now in
+pub returns-in_err-scanner-clause-reads : goal.returns-in_err-scanner-clause-reads
+returns-in_err-scanner-clause-reads g c = reads (tables c.args.book.now) (book_sound c.args.book.now) (g.S.Symbols.codes c.args.symbols.now)
+
+pub returns-in_err-scanner-clause-looks_back : goal.returns-in_err-scanner-clause-looks_back
+returns-in_err-scanner-clause-looks_back g c = looks_back (tables c.args.book.now) (book_sound c.args.book.now) (g.S.Symbols.codes c.args.symbols.now)
+
+pub set_lookbacks-requires-clause-fit : goal.set_lookbacks-requires-clause-fit
+set_lookbacks-requires-clause-fit g c =
+    whole_fit (tables c.args.book.now) (g.S.Symbols.codes c.args.symbols.now) c.args.memory.now c.write_entries-entries.new.memory c.write_entries-entries.result
+    (record {
+      within = c.write_entries-entries.ensures.within;
+      written = c.write_entries-entries.ensures.written ∙ ap₂ (λ t xs. read t 0 0 xs) (ap tables c.in_ok-scanner.ensures.1) (ap (λ s. g.S.Symbols.codes s) c.in_ok-scanner.ensures.2);
+      rest = c.write_entries-entries.ensures.rest;
+    })
+    (omega (arith, c.in_ok-scanner.ensures.0))
+
+-- what the first pass has written
+written : (g : given.Over) (c : goal.After-of g) → Pass (tables c.args.book.now) (g.S.Symbols.codes c.args.symbols.now) c.args.memory.now c.write_entries-entries.new.memory c.write_entries-entries.result
+written g c =
+    let w = c.write_entries-entries.ensures in
     record {
-      answer = answer_none (length c.args.memory.now) (length codes) _ (omega arith);
-      memory = refl {a = c.args.memory.now};
-      within = tt;
-      reads = reads t sound codes;
-      looks_back = looks_back t sound codes;
+      within = w.within;
+      written = w.written ∙ ap₂ (λ t xs. read t 0 0 xs) (ap tables c.in_ok-scanner.ensures.1) (ap (λ s. g.S.Symbols.codes s) c.in_ok-scanner.ensures.2);
+      rest = w.rest;
     }
 
-pub set_lookbacks-requires : goal.set_lookbacks-requires
-set_lookbacks-requires g c =
-    let codes = g.S.Symbols.codes c.args.symbols.now in
-    let w = c.write_entries-entries in
-    let first = stands_first _ (g.B.Count.number c.of.result) (g.S.Place.Count.number c.of-2.result) c.of.ensures c.of-2.ensures in
-    record {
-      fit = whole_fit g.S.Place.Count.number g.B.Count.number (tables c.args.book.now) codes c.args.memory.now w.new.memory w.result w.ensures (omega arith);
-      within = omega arith;
-      first = first;
-      reader = first;
-      behind = omega arith;
-      passed = λ i h. absurd (omega arith);
-    }
+-- what the second pass has come to
+listed : (g : given.Over) (c : goal.After-of g) → c.set_lookbacks.new.entries ≡ batch (tables c.args.book.now) (g.S.Symbols.codes c.args.symbols.now)
+listed g c = whole_part _ _ _ _ _ (written g c) _ _ c.first-2.ensures.number c.set_lookbacks.ensures
 
-pub returns : goal.returns
-returns g c =
-    let codes = g.S.Symbols.codes c.args.symbols.now in
-    let t = tables c.args.book.now in
-    let sound = book_sound c.args.book.now in
-    let l = g.S.Place.Count.number in
-    let b = g.B.Count.number in
-    let w = c.write_entries-entries in
-    let part = c.set_lookbacks.new.entries in
-    let is = whole_part l b t codes c.args.memory.now w.new.memory w.result w.ensures (b c.of.result) part c.of.ensures c.set_lookbacks.ensures in
-    let n = b c.of-3.result in
-    record {
-      answer = answer_some (length c.args.memory.now) (length codes) (length (batch t codes)) n (omega arith) (whole_size l b t codes c.args.memory.now w.new.memory w.result w.ensures part is n c.of-3.ensures);
-      memory = (
-        whole_list l b t codes c.args.memory.now w.new.memory w.result w.ensures part is n c.of-3.ensures,
-        whole_rest l b t codes c.args.memory.now w.new.memory w.result w.ensures part is n c.of-3.ensures,
-      );
-      within = whole_within l b t codes c.args.memory.now w.new.memory w.result w.ensures part is n c.of-3.ensures;
-      reads = reads t sound codes;
-      looks_back = looks_back t sound codes;
-    }
+pub returns-clause-answer : goal.returns-clause-answer
+returns-clause-answer g c =
+    answer_some (length c.args.memory.now) _ _ c.of.result (omega (arith, c.in_ok-scanner.ensures.0)) (whole_size _ _ _ _ _ (written g c) _ (listed g c) c.of.result c.of.ensures)
+
+pub returns-clause-memory : goal.returns-clause-memory
+returns-clause-memory g c = (
+  whole_list _ _ _ _ _ (written g c) _ (listed g c) c.of.result c.of.ensures,
+  whole_rest _ _ _ _ _ (written g c) _ (listed g c) c.of.result c.of.ensures,
+)
+
+pub returns-clause-within : goal.returns-clause-within
+returns-clause-within g c = whole_within _ _ _ _ _ (written g c) _ (listed g c) c.of.result c.of.ensures
+
+pub returns-clause-reads : goal.returns-clause-reads
+returns-clause-reads g c = reads (tables c.args.book.now) (book_sound c.args.book.now) (g.S.Symbols.codes c.args.symbols.now)
+
+pub returns-clause-looks_back : goal.returns-clause-looks_back
+returns-clause-looks_back g c = looks_back (tables c.args.book.now) (book_sound c.args.book.now) (g.S.Symbols.codes c.args.symbols.now)

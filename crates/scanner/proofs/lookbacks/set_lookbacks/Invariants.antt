@@ -1,14 +1,8 @@
-use Rattle.scanner.specs.Numbers.{numbered}
+use Rattle.std.proofs.Common.{◌≡◌, ◌≤◌}
 use Rattle.scanner.proofs.Alike.{Going}
 use Rattle.scanner.proofs.lookbacks.set_lookbacks.Given as goal
 
 abbrev pub invariant-loop-number : goal.invariant-loop-number
 invariant-loop-number g l =
-    Going
-    (numbered g.L.Count.number g.B.Count.number l.initial.entries)
-    (numbered g.L.Count.number g.B.Count.number l.entries)
-    l.initial.number
-    l.number
-    l.start
-    (g.B.Count.number l.reader.0)
-    (g.L.Count.number l.reader.1.0)
+    (l.spot.number ≡ l.number) × (l.reader.number ≤ l.number) ×
+    Going l.fn.entries l.entries l.fn.first.number l.number l.spot.start l.reader.number l.reader.start

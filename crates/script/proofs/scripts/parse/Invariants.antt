@@ -1,14 +1,8 @@
-use Rattle.std.proofs.Common.{◌≡◌, ◌+◌, ◌≤◌, length}
+use Rattle.std.proofs.Common.{◌≡◌, ◌+◌}
+use Rattle.std.specs.Iterator.Adapters.{enumerate_source, enumerate_count}
 use Rattle.script.specs.Plain.{heard}
-use Rattle.script.specs.Scripts.{silence, told, lines_of}
-use Rattle.script.proofs.Small.{Within}
+use Rattle.script.specs.Scripts.{told, lines_of, meaning, written_out}
 use Rattle.script.proofs.scripts.parse.Given as goal
 
-abbrev pub invariant-loop-rest : goal.invariant-loop-rest
-invariant-loop-rest l =
-    (l.number + length l.rest ≤ length l.initial.rest)
-    × (told 1 silence (lines_of l.initial.rest) ≡ told (l.number + 1) (heard l.said) (lines_of l.rest))
-    × Within (heard l.said)
-
-abbrev pub decreases-loop-rest : goal.decreases-loop-rest
-decreases-loop-rest l = length l.rest
+abbrev pub invariant-loop-i : goal.invariant-loop-i
+invariant-loop-i l = meaning l.input ≡ written_out (told (enumerate_count l.i-iterator + 1) (heard l.said) (lines_of (enumerate_source l.i-iterator).rest.now))

@@ -1,11 +1,9 @@
-use Rattle.std.proofs.Common.{arith, rules}
+use Rattle.std.proofs.Common.{arith}
 use Rattle.script.proofs.Back.{reads_back, quoted_back}
 use Rattle.telling.proofs.lines.text_line.Goals as goal
 
-pub returns : goal.returns
-returns c =
-    record {
-      back = λ rest. reads_back c.args.text.now rest (λ k. omega (arith, c.type_inv.text k));
-      line = search rules;
-      quoted = λ rest. quoted_back c.args.text.now rest (λ k. omega (arith, c.type_inv.text k));
-    }
+pub returns-clause-back : goal.returns-clause-back
+returns-clause-back c = λ rest. reads_back c.args.text.now rest (λ k. omega (arith, c.type_inv.text k))
+
+pub returns-clause-quoted : goal.returns-clause-quoted
+returns-clause-quoted c = λ rest. quoted_back c.args.text.now rest (λ k. omega (arith, c.type_inv.text k))

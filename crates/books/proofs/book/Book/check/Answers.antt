@@ -1,66 +1,72 @@
-use Rattle.std.proofs.Common.{◌≡◌, ℕ, ◌<◌, false, get_or, is_some, Some, None, sym, ap, subst}
+use Rattle.std.proofs.Common.{◌≡◌, ℕ, ◌<◌, false, get_or, is_some, None, sym, ap, ◌∙◌, subst}
+use Rattle.books.specs.declared.fault.BookFault.TheVariants.{Class, Step, Accept, Rule, Start}
 use Rattle.books.specs.Tables.{closed}
 use Rattle.books.specs.Sound.{Sound}
 use Rattle.books.specs.Check.{Plan, fault}
-use Rattle.books.specs.Plans.{plan}
+use Rattle.books.specs.Plans.{plan, held}
 use Rattle.books.proofs.Facts.{answered, sound_from_answers}
-use Rattle.books.proofs.Decides.{count_decides, length_decides, class_decides, step_decides, accept_decides, rule_decides, start_decides, exits}
+use Rattle.books.proofs.Decides.{classes_first, exits, passes}
 use Rattle.books.proofs.book.Book.check.Goals as goal
-use Rattle.books.proofs.book.Book.check.Goals.{After-copied, at-returns}
+use Rattle.books.proofs.book.Book.check.Goals.{After-closed_states, at-returns}
 
-pub returns-in_err-counts_right : goal.returns-in_err-counts_right
-returns-in_err-counts_right c =
-    exits _ _ c.from_residual.result _ c.from_residual.ensures.1
-    (count_decides (plan c.args.draft) _ c.in_err-counts_right.ensures)
+pub returns-in_err-yes_or : goal.returns-in_err-yes_or
+returns-in_err-yes_or c =
+    let classes = classes_first c.args.draft c.in_ok-measured.measured c.in_ok-measured.ensures in
+    exits Class _ _ _ _ _ c.from_residual-in_err-yes_or.result _ classes c.wrong_class.ensures c.in_err-yes_or.ensures c.from_residual-in_err-yes_or.ensures.1
 
-pub returns-in_err-lengths_right : goal.returns-in_err-lengths_right
-returns-in_err-lengths_right c =
-    exits _ _ c.from_residual-in_err-lengths_right.result _ c.from_residual-in_err-lengths_right.ensures.1
-    (length_decides (plan c.args.draft) _ c.in_ok-counts_right.ensures c.in_err-lengths_right.ensures)
+pub returns-in_err-yes_or-2 : goal.returns-in_err-yes_or-2
+returns-in_err-yes_or-2 c =
+    let classes = classes_first c.args.draft c.in_ok-measured.measured c.in_ok-measured.ensures in
+    let steps = passes Class _ _ _ _ classes c.wrong_class.ensures c.in_ok-yes_or.ensures in
+    exits Step _ _ _ _ _ c.from_residual-in_err-yes_or-2.result _ steps c.wrong_step.ensures c.in_err-yes_or-2.ensures c.from_residual-in_err-yes_or-2.ensures.1
 
-pub returns-in_err-classes_right : goal.returns-in_err-classes_right
-returns-in_err-classes_right c =
-    exits _ _ c.from_residual-in_err-classes_right.result _ c.from_residual-in_err-classes_right.ensures.1
-    (class_decides (plan c.args.draft) _ c.in_ok-counts_right.ensures c.in_ok-lengths_right.ensures c.in_err-classes_right.ensures)
+pub returns-in_err-yes_or-3 : goal.returns-in_err-yes_or-3
+returns-in_err-yes_or-3 c =
+    let classes = classes_first c.args.draft c.in_ok-measured.measured c.in_ok-measured.ensures in
+    let steps = passes Class _ _ _ _ classes c.wrong_class.ensures c.in_ok-yes_or.ensures in
+    let accepts = passes Step _ _ _ _ steps c.wrong_step.ensures c.in_ok-yes_or-2.ensures in
+    exits Accept _ _ _ _ _ c.from_residual-in_err-yes_or-3.result _ accepts c.wrong_accept.ensures c.in_err-yes_or-3.ensures c.from_residual-in_err-yes_or-3.ensures.1
 
-pub returns-in_err-steps_right : goal.returns-in_err-steps_right
-returns-in_err-steps_right c =
-    exits _ _ c.from_residual-in_err-steps_right.result _ c.from_residual-in_err-steps_right.ensures.1
-    (step_decides (plan c.args.draft) _ c.in_ok-counts_right.ensures c.in_ok-lengths_right.ensures c.in_ok-classes_right.ensures c.in_err-steps_right.ensures)
+pub returns-in_err-yes_or-4 : goal.returns-in_err-yes_or-4
+returns-in_err-yes_or-4 c =
+    let classes = classes_first c.args.draft c.in_ok-measured.measured c.in_ok-measured.ensures in
+    let steps = passes Class _ _ _ _ classes c.wrong_class.ensures c.in_ok-yes_or.ensures in
+    let accepts = passes Step _ _ _ _ steps c.wrong_step.ensures c.in_ok-yes_or-2.ensures in
+    let rules = passes Accept _ _ _ _ accepts c.wrong_accept.ensures c.in_ok-yes_or-3.ensures in
+    exits Rule _ _ _ _ _ c.from_residual-in_err-yes_or-4.result _ rules c.wrong_rule.ensures c.in_err-yes_or-4.ensures c.from_residual-in_err-yes_or-4.ensures.1
 
-pub returns-in_err-accepts_right : goal.returns-in_err-accepts_right
-returns-in_err-accepts_right c =
-    exits _ _ c.from_residual-in_err-accepts_right.result _ c.from_residual-in_err-accepts_right.ensures.1
-    (accept_decides (plan c.args.draft) _ c.in_ok-counts_right.ensures c.in_ok-lengths_right.ensures c.in_ok-classes_right.ensures c.in_ok-steps_right.ensures c.in_err-accepts_right.ensures)
-
-pub returns-in_err-rules_right : goal.returns-in_err-rules_right
-returns-in_err-rules_right c =
-    exits _ _ c.from_residual-in_err-rules_right.result _ c.from_residual-in_err-rules_right.ensures.1
-    (rule_decides (plan c.args.draft) _ c.in_ok-counts_right.ensures c.in_ok-lengths_right.ensures c.in_ok-classes_right.ensures c.in_ok-steps_right.ensures c.in_ok-accepts_right.ensures c.in_err-rules_right.ensures)
-
-pub returns-in_err-starts_right : goal.returns-in_err-starts_right
-returns-in_err-starts_right c =
-    exits _ _ c.from_residual-in_err-starts_right.result _ c.from_residual-in_err-starts_right.ensures.1
-    (start_decides (plan c.args.draft) (Some _) c.in_ok-counts_right.ensures c.in_ok-lengths_right.ensures c.in_ok-classes_right.ensures c.in_ok-steps_right.ensures c.in_ok-accepts_right.ensures c.in_ok-rules_right.ensures c.in_err-starts_right.ensures)
+pub returns-in_err-yes_or-5 : goal.returns-in_err-yes_or-5
+returns-in_err-yes_or-5 c =
+    let classes = classes_first c.args.draft c.in_ok-measured.measured c.in_ok-measured.ensures in
+    let steps = passes Class _ _ _ _ classes c.wrong_class.ensures c.in_ok-yes_or.ensures in
+    let accepts = passes Step _ _ _ _ steps c.wrong_step.ensures c.in_ok-yes_or-2.ensures in
+    let rules = passes Accept _ _ _ _ accepts c.wrong_accept.ensures c.in_ok-yes_or-3.ensures in
+    let starts = passes Rule _ _ _ _ rules c.wrong_rule.ensures c.in_ok-yes_or-4.ensures in
+    exits Start _ _ _ _ _ c.from_residual-in_err-yes_or-5.result _ starts c.wrong_start.ensures c.in_err-yes_or-5.ensures c.from_residual-in_err-yes_or-5.ensures.1
 
 -- after seven yeses there is no fault
-passes : (c : After-copied) → fault (plan c.args.draft) ≡ None
-passes c =
-    start_decides (plan c.args.draft) None c.in_ok-counts_right.ensures c.in_ok-lengths_right.ensures c.in_ok-classes_right.ensures c.in_ok-steps_right.ensures c.in_ok-accepts_right.ensures c.in_ok-rules_right.ensures c.in_ok-starts_right.ensures
+none : (c : After-closed_states) → fault (plan c.args.draft) ≡ None
+none c =
+    let classes = classes_first c.args.draft c.in_ok-measured.measured c.in_ok-measured.ensures in
+    let steps = passes Class _ _ _ _ classes c.wrong_class.ensures c.in_ok-yes_or.ensures in
+    let accepts = passes Step _ _ _ _ steps c.wrong_step.ensures c.in_ok-yes_or-2.ensures in
+    let rules = passes Accept _ _ _ _ accepts c.wrong_accept.ensures c.in_ok-yes_or-3.ensures in
+    let starts = passes Rule _ _ _ _ rules c.wrong_rule.ensures c.in_ok-yes_or-4.ensures in
+    passes Start _ _ _ _ starts c.wrong_start.ensures c.in_ok-yes_or-5.ensures
 
 pub invariant_of-result : goal.invariant_of-result
 invariant_of-result c =
-    let same = sym c.copied.ensures in
+    let same : plan c.in_ok-measured.measured.draft ≡ held c.copied.result = sym c.copied.ensures in
     record {
-      sound = subst (λ (p : Plan). is_some (fault p) ≡ false) same (ap is_some (passes c));
-      flagged = subst (λ (p : Plan). (s : ℕ) → s < p.states → get_or c.closed_states-flags.result s false ≡ closed p.tables s) same c.closed_states-flags.ensures;
+      sound = subst (λ (p : Plan). is_some (fault p) ≡ false) (ap plan (sym c.in_ok-measured.ensures) ∙ same) (ap is_some (none c));
+      flagged = subst (λ (p : Plan). (s : ℕ) → s < 128 → get_or c.closed_states.result s false ≡ closed p.tables s) same c.closed_states.ensures;
     }
 
 pub returns : goal.returns
 returns c =
-    let same = c.copied.ensures in
-    let none = passes (at-returns c).After-copied in (
-      none,
+    let same : held c.copied.result ≡ plan c.args.draft = c.copied.ensures ∙ ap plan c.in_ok-measured.ensures in
+    let sound = none (at-returns c).After-closed_states in (
+      sound,
       ap (λ (p : Plan). p.tables) same,
-      subst (λ (p : Plan). Sound p.tables) (sym same) (sound_from_answers (plan c.args.draft) (answered (plan c.args.draft) none)),
+      subst (λ (p : Plan). Sound p.tables) (sym same) (sound_from_answers (plan c.args.draft) (answered (plan c.args.draft) sound)),
     )

@@ -1,9 +1,8 @@
-use Rattle.std.proofs.Common.{refl, arith, rules}
+use Rattle.std.proofs.Common.{arith, length-take}
 use Rattle.std.proofs.lemmas.List.{with_items_is}
-use Rattle.text.specs.Pieces.{take_length_take}
+use Rattle.text.proofs.Pieces.{flat_spliced}
+use Rattle.text.proofs.Facts.{taken}
 use Rattle.text.proofs.flat.methods.FlatStoreTextStore.replace.Goals as goal
 
-pub returns : goal.returns
-returns c =
-    let w = with_items_is c.args.self.now.memory c.splice.new.memory (omega arith) in
-    record { answer = search rules; after = cc; capacity = refl; front = search (rules, take_length_take) }
+pub returns-clause-after : goal.returns-clause-after
+returns-clause-after c = grind (arith, with_items_is, taken, flat_spliced, length-take)

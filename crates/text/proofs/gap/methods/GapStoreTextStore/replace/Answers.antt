@@ -1,8 +1,8 @@
-use Rattle.std.proofs.Common.{refl, arith, rules}
+use Rattle.std.proofs.Common.{arith}
 use Rattle.std.proofs.lemmas.List.{with_items_is}
+use Rattle.text.proofs.Pieces.{gap_filled, length_around}
+use Rattle.text.proofs.Facts.{taken}
 use Rattle.text.proofs.gap.methods.GapStoreTextStore.replace.Goals as goal
 
-pub returns : goal.returns
-returns c =
-    let w = with_items_is c.args.self.now.memory c.splice.new.memory (omega arith) in
-    record { answer = search rules; after = cc; capacity = refl; gap = refl }
+pub returns-clause-after : goal.returns-clause-after
+returns-clause-after c = grind (arith, with_items_is, taken, gap_filled, length_around)
