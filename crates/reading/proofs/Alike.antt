@@ -1,8 +1,9 @@
 -- Lists that are alike but for the lookbacks, and a list that is given its lookbacks one after another.
-use Rattle.std.proofs.Common.{◌≡◌, ℕ, suc, ◌+◌, ◌-◌, ◌<◌, ◌≤◌, List, [], ◌∷◌, ◌++◌, length, take, drop, set, sym, refl, ap, ◌∙◌, ap₂, arith}
+use Rattle.std.proofs.Common.{◌≡◌, ℕ, zero, suc, ◌+◌, ◌-◌, ◌<◌, ◌≤◌, List, [], ◌∷◌, ◌++◌, length, take, drop, set, sym, refl, ap, ◌∙◌, ap₂, arith}
 use Rattle.std.proofs.lemmas.List.{append_assoc, ext_get_or, map-append, take-map, drop-map, length-map, length-take-le, length-drop, take_more, take-append-drop, drop_more, set_at, get_or-append_right, get_or-drop}
 use Rattle.books.specs.Tables.{Tables}
 use Rattle.reading.specs.Reading.{Entry, read, start, none, at, reach, lookback, with_lookback, listed, batch}
+use Rattle.reading.specs.Laws.{mode_before}
 use Rattle.reading.proofs.Only.{bare, at_bare, start_bare, lookback_bare}
 use Rattle.reading.proofs.Covers.{entry_same}
 
@@ -34,11 +35,21 @@ module _ (es fs : List Entry) (a : Alike es fs) where
   pub alike_at : (j : ℕ) → with_lookback 0 (at es j) ≡ with_lookback 0 (at fs j)
   alike_at j = sym (at_bare es j) ∙ ap (λ l. at l j) a ∙ at_bare fs j
 
+  pub alike_kind : (j : ℕ) → (at es j).kind ≡ (at fs j).kind
+  alike_kind j = ap (λ e. e.kind) (alike_at j)
+
   pub alike_extent : (j : ℕ) → (at es j).length ≡ (at fs j).length
   alike_extent j = ap (λ e. e.length) (alike_at j)
 
   pub alike_reading : (j : ℕ) → (at es j).reading ≡ (at fs j).reading
   alike_reading j = ap (λ e. e.reading) (alike_at j)
+
+  pub alike_mode : (j : ℕ) → (at es j).mode ≡ (at fs j).mode
+  alike_mode j = ap (λ e. e.mode) (alike_at j)
+
+  pub alike_mode_before : (j : ℕ) → mode_before es j ≡ mode_before fs j
+  alike_mode_before zero = refl
+  alike_mode_before (suc j) = alike_mode j
 
   pub alike_start : (j : ℕ) → start es j ≡ start fs j
   alike_start j = sym (start_bare es j) ∙ ap (λ l. start l j) a ∙ start_bare fs j

@@ -1,5 +1,5 @@
 -- An old list corrected in place: what was read again put in for what gave way, and the lookbacks given anew as far as they change.
-use Rattle.std.proofs.Common.{◌≡◌, ℕ, ◌+◌, ◌-◌, ◌<◌, ◌≤◌, List, ◌++◌, length, take, drop, sym, refl, ap, ◌∙◌, subst, ap₂, arith}
+use Rattle.std.proofs.Common.{◌≡◌, ℕ, ◌+◌, ◌-◌, ◌<◌, ◌≤◌, true, false, List, ◌++◌, length, take, drop, sym, refl, ap, ◌∙◌, subst, ap₂, arith}
 use Rattle.std.proofs.lemmas.List.{ext_get_or, take_at, length-take-le, get_or-append-add, get_or-drop}
 use Rattle.books.specs.Tables.{Tables}
 use Rattle.books.specs.Sound.{Sound}
@@ -11,7 +11,7 @@ use Rattle.reading.proofs.Split.{at_take, same_lookback}
 use Rattle.reading.proofs.Only.{bare}
 use Rattle.reading.proofs.Same.{batch_count, batch_lookback, batch_start}
 use Rattle.reading.proofs.Rejoin.{Kept, report_kept}
-use Rattle.reading.proofs.Tail.{Reached, kept_lookback, kept_level, tail_stops}
+use Rattle.reading.proofs.Tail.{Reached, kept_lookback, kept_level, changed_yes, changed_no, tail_stops}
 use Rattle.reading.proofs.Covers.{kept_count, before_entry}
 use Rattle.reading.proofs.Steps.{fresh_of, spliced}
 use Rattle.reading.proofs.Alike.{Alike, bare_batch, alike_append, alike_take, alike_drop, alike_start, alike_reach, alike_lookback, alike_from, given_to, given_begin, given_end}
@@ -150,3 +150,10 @@ module _ (t : Tables) (b : Sound t) (e : Edit) (xs ys : List ℕ) (d : Edited e 
     -- or through the end
     pub put_given_all : given_to (length new) new put ≡ new
     put_given_all = given_end (length new) new put (alike_from put new put_alike (length new) (λ j h l. absurd (omega arith)))
+
+    -- whether kept entry q changes, by what it has before its lookback is given
+    pub put_changed : (q : ℕ) → ((at new (n + q)).lookback ≡ (at put (n + q)).lookback → ⊥) → changed old new k n (q + 1) ≡ true
+    put_changed q h = changed_yes old new k n q (λ s. h (s ∙ sym (ap (λ c. c.lookback) (put_at q))))
+
+    pub put_unchanged : (q : ℕ) → (at new (n + q)).lookback ≡ (at put (n + q)).lookback → changed old new k n (q + 1) ≡ false
+    put_unchanged q h = changed_no old new k n q (h ∙ ap (λ c. c.lookback) (put_at q))

@@ -9,8 +9,8 @@ use Rattle.reading.specs.Report.{first}
 use Rattle.reading.proofs.Greatest.{greatest_le}
 use Rattle.reading.proofs.Least.{least_below, least_up_to}
 use Rattle.reading.proofs.Local.{token_reading}
-use Rattle.reading.proofs.Token.{token_reads}
-use Rattle.reading.proofs.Lists.{read_some, read_each, read_end, read_reads, read_adds_up, start_step, start_end, mode_from_before}
+use Rattle.reading.proofs.Token.{token_some, token_reads}
+use Rattle.reading.proofs.Lists.{read_some, read_each, read_end, read_reads, read_adds_up, start_step, start_up, start_end, mode_from_before}
 use Rattle.reading.proofs.Batch.{mode_before_below}
 use Rattle.reading.proofs.Split.{start_zero}
 
@@ -49,6 +49,14 @@ module _ (t : Tables) (b : Sound t) (xs : List ℕ) where
         | inl l ↦ subst (λ e. e.length ≤ e.reading) (sym (each_token j l)) (token_short t b (mode_before es j) (mode_before_below t b xs j) (drop (start es j) xs))
         | inr l ↦ subst (λ e. e.length ≤ e.reading) (sym (read_end t 0 xs j (omega arith))) (omega arith)
       ]
+
+  -- each but the last has a length
+  pub each_some : (j : ℕ) → suc j < length es → 1 ≤ (at es j).length
+  each_some j h = subst (λ e. 1 ≤ e.length) (sym (each_token j h)) (token_some t (mode_before es j) (drop (start es j) xs))
+
+  -- so no two start at one place
+  pub each_apart : (i j : ℕ) → i < j → j < length es → start es i < start es j
+  each_apart i j h l = omega (arith, start_step es i, each_some i (omega arith), start_up es (suc i) j h)
 
   -- the last starts at the text's end, and reads it
   pub last_start : (j : ℕ) → suc j ≡ length es → start es j ≡ length xs

@@ -24,6 +24,10 @@ replaced_edited s i a c h =
       back = sym (drop-drop (length i) a (take a s ++ rest)) ∙ ap (drop (length i)) (drop_at (take a s) rest a front) ∙ drop_at i (drop (a + c) s) (length i) refl;
     }
 
+-- nothing is cut and nothing inserted
+pub nothing_edited : (s : List ℕ) (a : ℕ) → a ≤ length s → Edited (edit a 0 0) s s
+nothing_edited s a h = record { within = omega arith; filled = omega arith; front = refl; back = refl }
+
 -- the kinds of the first entries, and of the others
 pub take_kinds : (f : ℕ) (es : List Entry) → f < length es → take f (kinds es) ≡ map (λ e. e.kind) (take f es)
 take_kinds zero es h = refl
@@ -86,6 +90,17 @@ module _ (t : Tables) (b : Sound t) (e : Edit) (xs ys : List ℕ) (d : Edited e 
 
   from_batch : (c i : ℕ) → Edited (edit f c i) (kinds (read t 0 0 xs)) (kinds (read t 0 0 ys)) → Edited (edit f c i) (kinds old) (kinds new)
   from_batch c i h = subst₂ (λ x y. Edited (edit f c i) x y) (sym (batch_kinds t xs)) (sym (batch_kinds t ys)) h
+
+  -- a report that counts the new end token counts the old one too
+  pub through_both : (report old new e).first + (report old new e).«in» ≡ length new → (report old new e).first + (report old new e).out ≡ length old
+  unfolding report
+  through_both h =
+      omega (arith, kept_count e (read t 0 0 xs) (read t 0 0 ys) f k n kept, kept.old_from, kept.new_from, batch_count t xs, batch_count t ys)
+
+  pub through_not : (report old new e).first + (report old new e).«in» < length new → (report old new e).first + (report old new e).out < length old
+  unfolding report
+  through_not h =
+      omega (arith, kept_count e (read t 0 0 xs) (read t 0 0 ys) f k n kept, kept.old_from, kept.new_from, batch_count t xs, batch_count t ys)
 
   -- the edit that the list above is corrected by
   pub kinds_edited : Edited (edit_above new (report old new e)) (kinds old) (kinds new)

@@ -1,7 +1,7 @@
 -- What a correction's loop keeps while it gives the lookbacks, in one record, and its steps.
 use Rattle.std.proofs.Common.{◌≡◌, ℕ, ◌+◌, ◌-◌, ◌<◌, ◌≤◌, ◌⊎◌, List, length, set, sym, ap, ◌∙◌, subst, arith}
 use Rattle.reading.specs.Reading.{Entry, start, at, reach, lookback, with_lookback}
-use Rattle.reading.proofs.Lookback.{Passed, passed_later, lookback_is}
+use Rattle.reading.proofs.Lookback.{Passed, passed_more, passed_later, lookback_is}
 use Rattle.reading.proofs.Only.{bare}
 use Rattle.reading.proofs.Alike.{Alike, alike_length, alike_lookback, given_to, given_alike, given_at, given_more}
 use Rattle.reading.proofs.Correct.{passed_alike}
@@ -32,6 +32,10 @@ module _ (new put : List Entry) (alike : Alike put new) where
     -- and from i on it is as it was put
     pub giving_at : (j : ℕ) → i ≤ j → i ≤ length new → at now j ≡ at put j
     giving_at j h l = ap (λ es. at es j) g.so_far ∙ given_at new put alike i j h l
+
+    -- the pointer passes one entry more
+    pub giving_pointer : p < i → reach now p ≤ start now i → Giving new put now i (p + 1)
+    giving_pointer h l = record { so_far = g.so_far; to = omega arith; passed = passed_more now p i g.passed l }
 
     -- it stands at the entry that the lookback leads to
     module _ (here : (p ≡ i) ⊎ (start now i < reach now p)) where

@@ -3,11 +3,11 @@ use Rattle.std.proofs.Common.{◌≡◌, ℕ, ◌+◌, ◌<◌, ◌≤◌, false
 use Rattle.std.proofs.lemmas.List.{append-nil, length_push}
 use Rattle.books.specs.Tables.{Tables}
 use Rattle.books.specs.Sound.{Sound}
-use Rattle.reading.specs.Reading.{Entry, entry, token, start, reach, batch}
+use Rattle.reading.specs.Reading.{Entry, entry, token, read, start, reach, batch}
 use Rattle.reading.specs.Laws.{mode_before}
 use Rattle.reading.specs.Report.{Edit, Edited, first, joins, rejoin, rejoined}
 use Rattle.reading.proofs.Tail.{Reached, reached_more, reached_further}
-use Rattle.reading.proofs.Walk.{Behind, behind_later, Tried, tried_none, tried_more, walk_more, walk_last}
+use Rattle.reading.proofs.Walk.{Behind, behind_more, behind_later, Tried, tried_none, tried_more, walk_more, walk_last}
 use Rattle.reading.proofs.Steps.{old_place, old_place_up, fresh_of, Walking, walk_begins, pointer_begins, step_early, step_apart, step_otherwise, step_joins, step_ends, step_reach}
 
 -- It has read got, which reach no further than the limit, stands here and goes on in this mode; none of got joins,
@@ -41,6 +41,10 @@ module _ (t : Tables) (b : Sound t) (e : Edit) (xs ys : List ℕ) (d : Edited e 
     abbrev tok : Entry
     tok = token t mode (drop here ys)
 
+    -- the pointer passes one old entry more
+    pub going_pointer : start old k < old_place e here → Going t e xs ys got mode here (k + 1) limit
+    going_pointer h = record { walk = g.walk; tried = g.tried; behind = behind_more old k (old_place e here) g.behind h; reached = g.reached }
+
     -- nothing joins here: before the end of what was inserted, where no old entry starts, where it is read in another mode
     pub going_early : here < e.place + e.inserted → joins old new e (f + length got) ≡ false
     going_early h = step_early t b e xs ys d got mode here g.walk h
@@ -70,6 +74,10 @@ module _ (t : Tables) (b : Sound t) (e : Edit) (xs ys : List ℕ) (d : Edited e 
     pub going_joins : e.place + e.inserted ≤ here → k < length old → start old k ≡ old_place e here → mode_before old k ≡ mode →
         (rejoin old new e ≡ f + length got) × (rejoined old new e ≡ k)
     going_joins far h s m = step_joins t b e xs ys d got mode here g.walk far k g.behind g.tried h s m
+
+    -- what is read is the beginning of all that there is to read
+    pub going_on : got ++ read t mode 0 (drop here ys) ≡ fresh_of t e xs ys
+    going_on = g.walk.on
 
     -- or the end token is read too, and they never do
     abbrev ended : List Entry

@@ -1,5 +1,5 @@
 -- Laws of `least`.
-use Rattle.std.proofs.Common.{◌≡◌, ℕ, zero, suc, ◌<◌, ◌≤◌, Bool, true, false, cond, refl, ap, ◌∙◌, inl, inr, arith}
+use Rattle.std.proofs.Common.{◌≡◌, ℕ, zero, suc, ◌+◌, ◌-◌, ◌<◌, ◌≤◌, Bool, true, false, cond, sym, refl, ap, ◌∙◌, inl, inr, arith}
 use Rattle.std.proofs.lemmas.Bool.{cases_Bool, cases_lt, both_ways}
 use Rattle.reading.specs.Report.{least}
 
@@ -49,3 +49,21 @@ least_same p q zero h = refl
 least_same p q (suc n) h =
     ap (λ b. cond b 0 (suc (least (λ k. p (suc k)) n))) (h 0 (omega arith)) ∙
     ap (λ g. cond (q 0) 0 (suc g)) (least_same (λ k. p (suc k)) (λ k. q (suc k)) n (λ i l. h (suc i) (omega arith)))
+
+-- the first k fail, and the search begins behind them
+pub least_shift : (p : ℕ → Bool) (k n : ℕ) → ((i : ℕ) → i < k → p i ≡ false) → least p (k + n) ≡ k + least (λ i. p (k + i)) n
+least_shift p k n below =
+    let q : ℕ → Bool = λ i. p (k + i) in
+    least_is
+    p
+    (k + n)
+    (k + least q n)
+    (omega (arith, least_le q n))
+    (λ h. least_passes q n (omega arith))
+    (λ i h. elim (cases_lt i k) [ inl l ↦ below i l | inr l ↦ shifted i l h ])
+  where
+    from : (i g : ℕ) → k + g ≡ i → p (k + g) ≡ false → p i ≡ false
+    from i g e h = ap p (sym e) ∙ h
+
+    shifted : (i : ℕ) → k ≤ i → i < k + least (λ j. p (k + j)) n → p i ≡ false
+    shifted i l h = from i (i - k) (omega arith) (least_below (λ j. p (k + j)) n (i - k) (omega arith))

@@ -1,5 +1,5 @@
 -- Lists of entries: the reading of a text entry by entry, and what giving the lookbacks leaves.
-use Rattle.std.proofs.Common.{◌≡◌, ℕ, zero, suc, pred, ◌+◌, ◌-◌, ◌<◌, ◌≤◌, List, [], ◌∷◌, ◌++◌, length, drop, sym, refl, ap, ◌∙◌, subst, ap₂, le_of_suc-le-suc, add-zero, add_comm, add-one, arith, drop-drop}
+use Rattle.std.proofs.Common.{◌≡◌, ℕ, zero, suc, pred, ◌+◌, ◌-◌, ◌<◌, ◌≤◌, List, [], ◌∷◌, ◌++◌, length, get_or, drop, sym, refl, ap, ◌∙◌, subst, ap₂, le_of_suc-le-suc, add-zero, add_comm, add-one, arith, drop-drop}
 use Rattle.std.proofs.Math.Seq.{drop-nil}
 use Rattle.std.proofs.lemmas.List.{append_assoc, length-drop, get_or-drop}
 use Rattle.books.specs.Tables.{Tables}
@@ -182,3 +182,9 @@ pub length_kinds : (es : List Entry) → length (kinds es) ≡ length es - 1
 length_kinds [] = refl
 length_kinds (e ∷ []) = refl
 length_kinds (e ∷ f ∷ es) = omega (arith, length_kinds (f ∷ es))
+
+pub getD_kinds : (es : List Entry) (j d : ℕ) → suc j < length es → get_or (kinds es) j d ≡ (at es j).kind
+getD_kinds [] j d h = absurd (omega arith)
+getD_kinds (e ∷ []) j d h = absurd (omega arith)
+getD_kinds (e ∷ f ∷ es) zero d h = refl
+getD_kinds (e ∷ f ∷ es) (suc j) d h = getD_kinds (f ∷ es) j d (omega arith)

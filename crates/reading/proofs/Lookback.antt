@@ -1,7 +1,8 @@
 -- Lookbacks: by a pointer that moves up the list, and what giving them leaves of the entries.
-use Rattle.std.proofs.Common.{◌≡◌, ℕ, zero, suc, ◌+◌, ◌-◌, ◌<◌, ◌≤◌, Bool, ltb, ◌⊎◌, List, [], ◌∷◌, length, sym, refl, ap, ◌∙◌, subst, ap₂, subst₂, inl, inr, add-zero, zero-add, arith}
-use Rattle.std.proofs.lemmas.Bool.{ltb-true, ltb-false, lt-ltb, le-ltb}
-use Rattle.reading.specs.Reading.{Entry, start, at, reach, lookback, with_lookback, listed, kinds}
+use Rattle.std.proofs.Common.{◌≡◌, ℕ, zero, suc, ◌+◌, ◌-◌, ◌<◌, ◌≤◌, Bool, ltb, ◌⊎◌, List, [], ◌∷◌, ◌++◌, length, take, drop, set, sym, refl, ap, ◌∙◌, subst, ap₂, subst₂, inl, inr, add-zero, zero-add, arith}
+use Rattle.std.proofs.lemmas.List.{append-nil, append_assoc, length-append, length-take, length-take-le, length-drop, take_all, take_more, drop_all, drop_more, set_at, get_or_append_left, get_or-append_right, get_or-take, get_or-drop}
+use Rattle.std.proofs.lemmas.Bool.{cases_lt, cases_eq, ltb-true, ltb-false, lt-ltb, le-ltb}
+use Rattle.reading.specs.Reading.{Entry, start, none, at, reach, lookback, with_lookback, listed, kinds}
 use Rattle.reading.specs.Laws.{mode_before, total_length, LooksBack}
 use Rattle.reading.proofs.Greatest.{greatest_le, greatest_passes, greatest_above, greatest_is, greatest_same}
 use Rattle.reading.proofs.Lists.{start_up}
@@ -12,6 +13,13 @@ test es j b = ltb (start es j) (reach es (j - b))
 -- a pointer at p has passed the entries before it: none of them reads j's start
 abbrev pub Passed : List Entry → ℕ → ℕ → Type 0
 Passed es p j = (i : ℕ) → i < p → reach es i ≤ start es j
+
+pub passed_none : (es : List Entry) (j : ℕ) → Passed es 0 j
+passed_none es j i h = absurd (omega arith)
+
+-- it passes one entry more
+pub passed_more : (es : List Entry) (p j : ℕ) → Passed es p j → reach es p ≤ start es j → Passed es (p + 1) j
+passed_more es p j passed l i h = elim (cases_eq i p) [ inl e ↦ subst (λ n. reach es n ≤ start es j) (sym e) l | inr e ↦ passed i (omega arith) ]
 
 -- what it has passed at one entry it has passed at every later one
 pub passed_later : (es : List Entry) (p j k : ℕ) → j ≤ k → Passed es p j → Passed es p k
@@ -49,6 +57,11 @@ pub kind_listed : (all es : List Entry) (j i : ℕ) → (at (listed all es j) i)
 kind_listed all [] j i = refl
 kind_listed all (e ∷ es) j zero = refl
 kind_listed all (e ∷ es) j (suc i) = kind_listed all es (suc j) i
+
+pub extent_listed : (all es : List Entry) (j i : ℕ) → (at (listed all es j) i).length ≡ (at es i).length
+extent_listed all [] j i = refl
+extent_listed all (e ∷ es) j zero = refl
+extent_listed all (e ∷ es) j (suc i) = extent_listed all es (suc j) i
 
 pub reading_listed : (all es : List Entry) (j i : ℕ) → (at (listed all es j) i).reading ≡ (at es i).reading
 reading_listed all [] j i = refl
@@ -112,3 +125,82 @@ looks_back_listed es reads =
 
     given : (j : ℕ) → j < length (listed es es 0) → (at (listed es es 0) j).lookback ≡ lookback es j
     given j h = ap (λ e. e.lookback) (at_listed es j (short j h))
+
+-- what is added at the end of a list changes nothing of the entries before it, nor a lookback
+pub at_front : (es fs : List Entry) (j : ℕ) → j < length es → at (es ++ fs) j ≡ at es j
+at_front es fs j h = get_or_append_left es fs none j h
+
+pub start_front : (es fs : List Entry) (j : ℕ) → j ≤ length es → start (es ++ fs) j ≡ start es j
+start_front [] [] j h = refl
+start_front [] (f ∷ fs) zero h = refl
+start_front [] (f ∷ fs) (suc j) h = absurd (omega arith)
+start_front (e ∷ es) fs zero h = refl
+start_front (e ∷ es) fs (suc j) h = ap (λ n. e.length + n) (start_front es fs j (omega arith))
+
+pub reach_front : (es fs : List Entry) (j : ℕ) → j < length es → reach (es ++ fs) j ≡ reach es j
+reach_front es fs j h = ap₂ (λ a e. a + e.reading) (start_front es fs j (omega arith)) (at_front es fs j h)
+
+pub lookback_front : (es fs : List Entry) (j : ℕ) → j ≤ length es → lookback (es ++ fs) j ≡ lookback es j
+lookback_front es fs j h = greatest_same (test (es ++ fs) j) (test es j) j (λ b x y. ap₂ ltb (start_front es fs j h) (reach_front es fs (j - b) (omega arith)))
+
+-- a pointer into a list that grows by an entry
+pub passed_push : (es : List Entry) (e : Entry) (p : ℕ) → p ≤ length es → Passed es p (length es) → Passed (es ++ e ∷ []) p (length es + 1)
+passed_push es e p l passed i h =
+    let all = es ++ e ∷ [] in
+    omega (arith, passed i h, reach_front es (e ∷ []) i (omega arith), start_front es (e ∷ []) (length es) (omega arith), start_up all (length es) (length es + 1) (omega arith))
+
+listed_front : (es fs gs : List Entry) (j : ℕ) → j + length gs ≤ length es → listed (es ++ fs) gs j ≡ listed es gs j
+listed_front es fs [] j h = refl
+listed_front es fs (g ∷ gs) j h = ap₂ (λ b l. with_lookback b g ∷ l) (lookback_front es fs j (omega arith)) (listed_front es fs gs (suc j) (omega arith))
+
+listed_append : (all es fs : List Entry) (j : ℕ) → listed all (es ++ fs) j ≡ listed all es j ++ listed all fs (j + length es)
+listed_append all [] fs j = ap (listed all fs) (sym (add-zero j))
+listed_append all (e ∷ es) fs j = ap (λ l. with_lookback (lookback all j) e ∷ l) (listed_append all es fs (suc j) ∙ ap (λ n. listed all es (suc j) ++ listed all fs n) (omega arith))
+
+-- a list that grows by an entry at its end: the lookbacks that were given stay
+pub listed_push : (es : List Entry) (e : Entry) → listed (es ++ e ∷ []) (es ++ e ∷ []) 0 ≡ listed es es 0 ++ with_lookback (lookback es (length es)) e ∷ []
+listed_push es e =
+    listed_append (es ++ e ∷ []) es (e ∷ []) 0 ∙
+    ap₂
+    (λ l b. l ++ with_lookback b e ∷ [])
+    (listed_front es (e ∷ []) es 0 (omega arith))
+    (ap (lookback (es ++ e ∷ [])) (zero-add (length es)) ∙ lookback_front es (e ∷ []) (length es) (omega arith))
+
+-- a list of which the first j entries have been given their lookbacks
+abbrev pub listed_to : ℕ → List Entry → List Entry
+listed_to j es = take j (listed es es 0) ++ drop j es
+
+pub listed_to_none : (es : List Entry) → listed_to 0 es ≡ es
+listed_to_none es = refl
+
+pub listed_to_all : (es : List Entry) → listed_to (length es) es ≡ listed es es 0
+listed_to_all es = ap₂ (λ a b. a ++ b) (take_all (length es) (listed es es 0) (omega (arith, length_listed es es 0))) (drop_all (length es) es (omega arith)) ∙ append-nil (listed es es 0)
+
+pub listed_to_more : (es : List Entry) (j : ℕ) → j < length es → listed_to (j + 1) es ≡ set (listed_to j es) j (with_lookback (lookback es j) (at es j))
+listed_to_more es j h =
+    let l = listed es es 0 in
+    let e = with_lookback (lookback es j) (at es j) in
+    let len : length l ≡ length es = length_listed es es 0 in
+    let one : take (j + 1) l ≡ take j l ++ e ∷ [] = take_more l j none (omega arith) ∙ ap (λ x. take j l ++ x ∷ []) (at_listed es j h) in
+    let left : drop j es ≡ at es j ∷ drop (j + 1) es = drop_more es j none h in
+    ap (λ x. x ++ drop (j + 1) es) one ∙ append_assoc (take j l) (e ∷ []) (drop (j + 1) es) ∙
+    sym (ap (λ x. set (take j l ++ x) j e) left ∙ set_at (take j l) (at es j) (drop (j + 1) es) e j (length-take-le j l (omega arith)))
+
+pub length_listed_to : (j : ℕ) (es : List Entry) → length (listed_to j es) ≡ length es
+length_listed_to j es = length-append (take j (listed es es 0)) (drop j es) ∙ omega (arith, length-take j (listed es es 0), length-drop j es, length_listed es es 0)
+
+-- all but the lookbacks is as it was
+pub at_listed_to : (es : List Entry) (j i : ℕ) → j ≤ i → j ≤ length es → at (listed_to j es) i ≡ at es i
+at_listed_to es j i h l =
+    get_or-append_right (take j (listed es es 0)) (drop j es) j i none (length-take-le j (listed es es 0) (omega (arith, length_listed es es 0))) h ∙ get_or-drop j es (i - j) none ∙ ap (at es) (omega arith)
+
+pub at_listed_below : (es : List Entry) (j i : ℕ) → i < j → j ≤ length es → at (listed_to j es) i ≡ with_lookback (lookback es i) (at es i)
+at_listed_below es j i h l =
+    let len : length (take j (listed es es 0)) ≡ j = length-take-le j (listed es es 0) (omega (arith, length_listed es es 0)) in
+    get_or_append_left (take j (listed es es 0)) (drop j es) none i (omega arith) ∙ get_or-take j (listed es es 0) i none h ∙ at_listed es i (omega arith)
+
+pub reading_listed_to : (es : List Entry) (j i : ℕ) → j ≤ length es → (at (listed_to j es) i).reading ≡ (at es i).reading
+reading_listed_to es j i l = elim (cases_lt i j) [ inl h ↦ ap (λ e. e.reading) (at_listed_below es j i h l) | inr h ↦ ap (λ e. e.reading) (at_listed_to es j i h l) ]
+
+pub extent_listed_to : (es : List Entry) (j i : ℕ) → j ≤ length es → (at (listed_to j es) i).length ≡ (at es i).length
+extent_listed_to es j i l = elim (cases_lt i j) [ inl h ↦ ap (λ e. e.length) (at_listed_below es j i h l) | inr h ↦ ap (λ e. e.length) (at_listed_to es j i h l) ]

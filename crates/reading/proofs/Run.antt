@@ -1,9 +1,9 @@
 -- A scan in progress: what is left of it, step by step.
-use Rattle.std.proofs.Common.{◌≡◌, ℕ, zero, suc, ◌+◌, ◌≤◌, true, false, cond, not, eqb, List, [], ◌∷◌, length, get_or, sym, ap, ◌∙◌, ap₂, inl, inr, add-zero, zero-add, arith}
-use Rattle.std.proofs.lemmas.List.{get_or_default}
+use Rattle.std.proofs.Common.{◌≡◌, ℕ, zero, suc, ◌+◌, ◌<◌, ◌≤◌, true, false, cond, not, eqb, List, [], ◌∷◌, length, get_or, drop, sym, refl, ap, ◌∙◌, ap₂, inl, inr, add-zero, zero-add, arith}
+use Rattle.std.proofs.lemmas.List.{get_or_default, drop_all, drop_more}
 use Rattle.std.proofs.lemmas.Bool.{cases_Bool, eq-eqb, ne_eqb, or_from, or_left, or_right, cond-true, cond-false}
-use Rattle.books.specs.Tables.{Tables, step, closed, accept, start_state}
-use Rattle.reading.specs.Reading.{Entry, path, stuck, state, longest, reading, matched, token}
+use Rattle.books.specs.Tables.{Tables, step, closed, accept, kind_of, next_mode, start_state}
+use Rattle.reading.specs.Reading.{Entry, entry, path, stuck, state, longest, reading, matched, token}
 use Rattle.reading.proofs.Greatest.{onward, greatest_le, greatest_same, greatest_onward}
 use Rattle.reading.proofs.Local.{path_stuck, path_step}
 
@@ -85,6 +85,25 @@ pub run_accept : (t : Tables) (s n k r x : ℕ) (xs : List ℕ) → closed t s �
     run t s n k r (x ∷ xs) ≡ run t (step t s x) (n + 1) (n + 1) (accept t (step t s x)) xs
 run_accept t s n k r x xs c e a = run_keep t s n k r x xs (moves t s x c e) (ne_eqb (accept t (step t s x)) 255 a)
 
+-- the same for a loop over the symbols xs that stands before place i, where the code is x
+pub run_end_at : (t : Tables) (s n k r : ℕ) (xs : List ℕ) (i : ℕ) → closed t s ≡ false → length xs ≤ i → run t s n k r (drop i xs) ≡ scan k r (n + 1)
+run_end_at t s n k r xs i c h = ap (run t s n k r) (drop_all i xs h) ∙ run_end t s n k r c
+
+before : (t : Tables) (s n k r : ℕ) (xs : List ℕ) (i x d : ℕ) → i < length xs → x ≡ get_or xs i d → run t s n k r (drop i xs) ≡ run t s n k r (x ∷ drop (i + 1) xs)
+before t s n k r xs i x d h q = ap (run t s n k r) (drop_more xs i d h ∙ ap (λ z. z ∷ drop (i + 1) xs) (sym q))
+
+pub run_none_at : (t : Tables) (s n k r : ℕ) (xs : List ℕ) (i x d : ℕ) → closed t s ≡ false → i < length xs → x ≡ get_or xs i d → step t s x ≡ 255 →
+    run t s n k r (drop i xs) ≡ scan k r (n + 1)
+run_none_at t s n k r xs i x d c h q e = before t s n k r xs i x d h q ∙ run_none t s n k r x (drop (i + 1) xs) c e
+
+pub run_step_at : (t : Tables) (s n k r : ℕ) (xs : List ℕ) (i x d : ℕ) → closed t s ≡ false → i < length xs → x ≡ get_or xs i d → (step t s x ≡ 255 → ⊥) → accept t (step t s x) ≡ 255 →
+    run t s n k r (drop i xs) ≡ run t (step t s x) (n + 1) k r (drop (i + 1) xs)
+run_step_at t s n k r xs i x d c h q e a = before t s n k r xs i x d h q ∙ run_step t s n k r x (drop (i + 1) xs) c e a
+
+pub run_accept_at : (t : Tables) (s n k r : ℕ) (xs : List ℕ) (i x d : ℕ) → closed t s ≡ false → i < length xs → x ≡ get_or xs i d → (step t s x ≡ 255 → ⊥) → (accept t (step t s x) ≡ 255 → ⊥) →
+    run t s n k r (drop i xs) ≡ run t (step t s x) (n + 1) (n + 1) (accept t (step t s x)) (drop (i + 1) xs)
+run_accept_at t s n k r xs i x d c h q e a = before t s n k r xs i x d h q ∙ run_accept t s n k r x (drop (i + 1) xs) c e a
+
 -- the longest match of a path that begins with a step to p
 longest_step : (t : Tables) (s p : ℕ) (ps : List ℕ) → longest t s (p ∷ ps) ≡ onward (not (eqb (accept t p) 255)) (longest t p ps)
 longest_step t s p ps =
@@ -143,6 +162,13 @@ run_path t s n k r (x ∷ xs) =
 -- the entry that a scan in mode m gives
 abbrev pub given_by : Tables → ℕ → Scan → Entry
 given_by t m c = matched t m c.reading c.kept c.rule
+
+pub given_none : (t : Tables) (m r h : ℕ) → given_by t m (scan 0 r h) ≡ entry 0 1 h m 0
+given_none t m r h = refl
+
+pub given_some : (t : Tables) (m k r h : ℕ) → 0 < k → given_by t m (scan k r h) ≡ entry (kind_of t r) k h (next_mode t r) 0
+given_some t m zero r h l = absurd (omega arith)
+given_some t m (suc k) r h l = refl
 
 given_then : (t : Tables) (m r l a h : ℕ) → matched t m h l a ≡ given_by t m (kept_then 0 0 r l a h)
 given_then t m r zero a h = ap (λ i. matched t m i 0 r) (sym (zero-add h))

@@ -1,20 +1,24 @@
 -- The steps of a correction's walk, in the numbers that a loop keeps: the entries it has read, its place, its mode, and its pointer into the old entries.
-use Rattle.std.proofs.Common.{◌≡◌, ℕ, ◌+◌, ◌-◌, ◌<◌, ◌≤◌, false, List, [], ◌∷◌, ◌++◌, length, take, drop, sym, refl, ap, ◌∙◌, ap₂, subst₂, add-zero, arith, drop-drop}
+use Rattle.std.proofs.Common.{◌≡◌, ℕ, ◌+◌, ◌-◌, ◌<◌, ◌≤◌, Bool, false, ◌&&◌, eqb, ltb, leb, List, [], ◌∷◌, ◌++◌, length, take, drop, sym, refl, ap, ◌∙◌, ap₂, subst₂, add-zero, arith, drop-drop}
 use Rattle.std.proofs.lemmas.List.{length_push, length-take-le, length-drop, drop_at}
 use Rattle.books.specs.Tables.{Tables}
 use Rattle.books.specs.Sound.{Sound}
 use Rattle.reading.specs.Reading.{Entry, entry, token, read, start, at, reach, batch}
 use Rattle.reading.specs.Laws.{mode_before}
-use Rattle.reading.specs.Report.{Edit, Edited, first, joins, rejoin, rejoined}
-use Rattle.reading.proofs.Lists.{read_none, read_more}
+use Rattle.reading.specs.Report.{Edit, Edited, least, first, starting, joins, rejoin, rejoined}
+use Rattle.reading.proofs.Least.{least_same}
+use Rattle.reading.proofs.Lists.{read_none, read_more, mode_from}
 use Rattle.reading.proofs.Split.{at_add}
 use Rattle.reading.proofs.Same.{batch_count, batch_start, batch_reading, batch_mode_before}
 use Rattle.reading.proofs.Rejoin.{report_first, report_kept}
-use Rattle.reading.proofs.Walk.{Behind, behind_first, joins_early, joins_yes, joins_otherwise, joins_apart, old_at_is, Tried, rejoin_is, rejoined_is, rejoin_never, rejoined_never, Walk, walk_begin, walk_last, walk_new, walk_new_start, walk_new_mode, fresh_on, fresh_length}
+use Rattle.reading.proofs.Walk.{Behind, behind_first, joins_early, joins_yes, joins_otherwise, joins_apart, old_at_is, Tried, rejoin_is, rejoined_is, rejoin_never, rejoined_never, Walk, walk_begin, walk_last, walk_new, walk_new_start, walk_new_mode, fresh_on, fresh_length, fresh_start, fresh_mode}
 
 -- where in the old text a new place behind what was inserted lies
 abbrev pub old_place : Edit → ℕ → ℕ
 old_place e here = e.place + e.cut + (here - (e.place + e.inserted))
+
+pub old_place_level : (e : Edit) (here : ℕ) → e.place + e.inserted ≤ here → old_place e here + e.inserted ≡ here + e.cut
+old_place_level e here h = omega arith
 
 pub old_place_up : (e : Edit) (here there : ℕ) → here ≤ there → old_place e here ≤ old_place e there
 old_place_up e here there h = omega arith
@@ -31,6 +35,13 @@ Walking t e xs ys got mode here =
     let f = first (batch t xs) e.place in
     Walk t ys (mode_before (read t 0 0 xs) f) (start (read t 0 0 xs) f) (fresh_of t e xs ys) got mode here
 
+-- the test at entry j of those that the walk reads, the first in mode m and at place p
+abbrev pub meets : List Entry → Edit → ℕ → ℕ → List Entry → ℕ → Bool
+meets old e m p fresh j =
+    let q = p + start fresh j in
+    let k = starting old ((q + e.cut) - e.inserted) in
+    leb (e.place + e.inserted) q && (ltb k (length old) && eqb (mode_before old k) (mode_from m fresh j))
+
 module _ (t : Tables) (b : Sound t) (e : Edit) (xs ys : List ℕ) (d : Edited e xs ys) where
   abbrev es : List Entry
   es = read t 0 0 xs
@@ -46,6 +57,19 @@ module _ (t : Tables) (b : Sound t) (e : Edit) (xs ys : List ℕ) (d : Edited e 
 
   abbrev f : ℕ
   f = first old e.place
+
+  -- the walk's own view of the rejoin
+  pub joins_meets : (j : ℕ) → joins old new e (f + j) ≡ meets old e (mode_before es f) (start es f) (fresh_of t e xs ys) j
+  joins_meets j =
+      ap₂
+      (λ q m. leb (e.place + e.inserted) q && (ltb (starting old ((q + e.cut) - e.inserted)) (length old) && eqb (mode_before old (starting old ((q + e.cut) - e.inserted))) m))
+      (batch_start t ys (f + j) ∙ fresh_start t b e xs ys d j)
+      (batch_mode_before t ys (f + j) ∙ fresh_mode t b e xs ys d j)
+
+  pub rejoin_fresh : rejoin old new e ≡ f + least (meets old e (mode_before es f) (start es f) (fresh_of t e xs ys)) (length (fresh_of t e xs ys))
+  rejoin_fresh =
+      let count : length new - f ≡ length (fresh_of t e xs ys) = omega (arith, batch_count t ys, fresh_length t b e xs ys d) in
+      ap (λ n. f + n) (least_same (λ j. joins old new e (f + j)) (meets old e (mode_before es f) (start es f) (fresh_of t e xs ys)) (length new - f) (λ j h. joins_meets j) ∙ ap (least (meets old e (mode_before es f) (start es f) (fresh_of t e xs ys))) count)
 
   -- it begins at the start of the first entry that is read again, in the mode before it
   pub walk_begins : (mode here : ℕ) → mode ≡ mode_before old f → here ≡ start old f → Walking t e xs ys [] mode here

@@ -43,6 +43,9 @@ lookback_kept es fs k n q same old new = lookback_from fs n q new ∙ ap (λ l. 
 abbrev pub Reached : List Entry → ℕ → ℕ → ℕ → Type 0
 Reached es f k limit = (i : ℕ) → f ≤ i → i < k → reach es i ≤ limit
 
+pub reached_none : (es : List Entry) (f limit : ℕ) → Reached es f f limit
+reached_none es f limit i h l = absurd (omega arith)
+
 pub reached_more : (es : List Entry) (f k limit : ℕ) → Reached es f k limit → reach es k ≤ limit → Reached es f (k + 1) limit
 reached_more es f k limit old h i a l = elim (cases_eq i k) [ inl e ↦ subst (λ n. reach es n ≤ limit) (sym e) h | inr e ↦ old i a (omega arith) ]
 
@@ -108,3 +111,10 @@ tail_stops old new k n q count h same = greatest_stops (changed old new k n) q c
     stays : (i : ℕ) → q < i → i ≤ count → changed old new k n i ≡ false
     stays zero a l = absurd (omega arith)
     stays (suc i) a l = ap (changed old new k n) (sym (add-one i)) ∙ changed_no old new k n i (same i (omega arith) (omega arith))
+
+pub tail_le : (old new : List Entry) (k n q count : ℕ) → ((i : ℕ) → q ≤ i → i < count → (at new (n + i)).lookback ≡ (at old (k + i)).lookback) → greatest (changed old new k n) count ≤ q
+tail_le old new k n q count same =
+    elim (cases_lt q count) [
+      | inl h ↦ omega (arith, tail_stops old new k n q count (omega arith) same, greatest_le (changed old new k n) q)
+      | inr h ↦ omega (arith, greatest_le (changed old new k n) count)
+    ]

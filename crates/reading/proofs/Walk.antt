@@ -1,5 +1,5 @@
 -- A walk that reads a text again from an old entry on, beside a pointer into the old entries, and finds where the two rejoin.
-use Rattle.std.proofs.Common.{◌≡◌, ℕ, ◌+◌, ◌-◌, ◌<◌, ◌≤◌, Bool, true, false, ◌&&◌, eqb, ltb, leb, List, [], ◌∷◌, ◌++◌, length, take, drop, sym, refl, ap, ◌∙◌, ap₂, inl, inr, add-zero, arith}
+use Rattle.std.proofs.Common.{◌≡◌, ℕ, ◌+◌, ◌-◌, ◌<◌, ◌≤◌, Bool, true, false, ◌&&◌, eqb, ltb, leb, List, [], ◌∷◌, ◌++◌, length, take, drop, sym, refl, ap, ◌∙◌, subst, ap₂, inl, inr, add-zero, arith}
 use Rattle.std.proofs.lemmas.List.{length-append, length_push, length-take-le, length-drop, take-take}
 use Rattle.std.proofs.lemmas.Bool.{cases_lt, cases_eq, and_from, and_left, and_right, cond-true, cond-false, le-leb, lt-leb, lt-ltb, le-ltb, eq-eqb, ne_eqb}
 use Rattle.books.specs.Tables.{Tables}
@@ -19,6 +19,13 @@ use Rattle.reading.proofs.Rejoin.{report_first, report_before}
 -- a pointer at k over the old entries has passed only such as start before q
 abbrev pub Behind : List Entry → ℕ → ℕ → Type 0
 Behind old k q = (i : ℕ) → i < k → start old i < q
+
+pub behind_none : (old : List Entry) (q : ℕ) → Behind old 0 q
+behind_none old q i h = absurd (omega arith)
+
+-- it passes one entry more
+pub behind_more : (old : List Entry) (k q : ℕ) → Behind old k q → start old k < q → Behind old (k + 1) q
+behind_more old k q behind h i l = elim (cases_eq i k) [ inl e ↦ subst (λ n. start old n < q) (sym e) h | inr e ↦ behind i (omega arith) ]
 
 -- what it has passed for one place it has passed for every later one
 pub behind_later : (old : List Entry) (k q r : ℕ) → q ≤ r → Behind old k q → Behind old k r
