@@ -1,6 +1,6 @@
 -- Setting the lookbacks of a list one by one.
-use Rattle.std.proofs.Common.{◌≡◌, ℕ, suc, ◌+◌, ◌-◌, ◌^◌, ◌<◌, ◌≤◌, min, List, [], ◌∷◌, ◌++◌, length, take, drop, set, sym, ap, ◌∙◌, subst, ap₂, add-one, arith}
-use Rattle.std.proofs.lemmas.List.{append_assoc, take_more_set, drop-set-lt, drop_more, map-set, set-get_or}
+use Rattle.std.proofs.Common.{◌≡◌, ℕ, suc, ◌+◌, ◌-◌, ◌^◌, ◌<◌, ◌≤◌, min, List, [], ◌∷◌, ◌++◌, length, take, drop, set, sym, refl, ap, ◌∙◌, subst, ap₂, add-one, arith}
+use Rattle.std.proofs.lemmas.List.{append_assoc, take_more_set, drop-set-lt, drop_more, map-set, set-get_or, take_all, drop_all, append-nil}
 use Rattle.reading.specs.Reading.{Entry, start, at, none, lookback, with_lookback, listed}
 use Rattle.reading.proofs.Lookback.{lookback_le, lookback_first}
 use Rattle.reading.proofs.Lists.{start_up, start_more}
@@ -33,6 +33,9 @@ set_from_more all es j b h e =
     ∙ ap (λ x. take j es ++ (with_lookback x (at es j) ∷ listed all (drop (j + 1) es) (suc j))) e
     ∙ ap (λ xs. take j es ++ listed all xs j) (sym (drop_more es j none h))
 
+pub set_from_all : (all es : List Entry) (j : ℕ) → length es ≤ j → set_from all es j ≡ es
+set_from_all all es j h = ap₂ (λ xs ys. xs ++ listed all ys j) (take_all j es h) (drop_all j es h) ∙ append-nil es
+
 -- Setting lookbacks, in progress: `now` is what the list `es` has come to, `number` is the next entry, which begins at `place`,
 -- and `reader` is an entry that begins at `begins`
 pub record Going (es now : List Entry) (from number place reader begins : ℕ) : Type 0 where
@@ -42,6 +45,10 @@ pub record Going (es now : List Entry) (from number place reader begins : ℕ) :
   pub stands : begins ≡ start es reader
   pub passed : Passed es reader number
   pub comes : set_from es now number ≡ set_from es es from
+
+pub going_none : (es : List Entry) (number place reader begins : ℕ) → place ≡ start es number → reader ≤ number → begins ≡ start es reader → Passed es reader number →
+    Going es es number number place reader begins
+going_none es number place reader begins a b c d = record { alike = refl; starts = a; behind = b; stands = c; passed = d; comes = refl }
 
 -- the same facts at `now`
 pub record Ready (now : List Entry) (number place reader begins : ℕ) : Type 0 where
@@ -72,6 +79,10 @@ going_more es now from number place reader begins h l next further e f =
       passed = subst (λ (n : ℕ). Passed es n (number + 1)) (sym (e ∙ ap (λ n. number - n) same)) (passed_on es number);
       comes = set_from_more es now number (number - next) l back ∙ h.comes;
     }
+
+-- past the last entry the list is done
+pub going_all : (es now : List Entry) (from number place reader begins first : ℕ) → Going es now from number place reader begins → length now ≤ number → from ≡ first → now ≡ set_from es es first
+going_all es now from number place reader begins first h end e = sym (set_from_all es now number end) ∙ h.comes ∙ ap (set_from es es) e
 
 -- one turn: x is what was read of the entry, and `back` and `long` are other names of its new lookback and of the next entry's place
 pub going_written : (es now : List Entry) (from number place reader begins : ℕ) → Going es now from number place reader begins → Fit es → number < length now →

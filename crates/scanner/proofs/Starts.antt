@@ -1,5 +1,5 @@
 -- Where entries start, and sums that stop growing at the greatest number of 64 bits, where the list's own fit.
-use Rattle.std.proofs.Common.{◌≡◌, ℕ, ◌+◌, ◌-◌, ◌^◌, ◌<◌, min, List, length, get_or, take, drop, sym, ◌∙◌, arith}
+use Rattle.std.proofs.Common.{◌≡◌, ℕ, ◌+◌, ◌-◌, ◌^◌, ◌<◌, min, List, length, get_or, take, drop, sym, ap, ◌∙◌, arith}
 use Rattle.std.proofs.lemmas.List.{get_or_read, get_or-take, get_or-drop, length-take}
 use Rattle.reading.specs.Reading.{Entry, none, start, at, reach}
 use Rattle.reading.proofs.Lists.{start_more}
@@ -13,6 +13,10 @@ module _ (es : List Entry) (fit : Fit es) (j here : ℕ) (stands : here ≡ star
   -- where this one's reading ends
   pub sum_reach : (read sum : ℕ) → (at es j).reading ≡ read → sum ≡ min (here + read) (2 ^ 64 - 1) → sum ≡ reach es j
   sum_reach read sum e s = omega (arith, fit j)
+
+-- a start that is known by other names
+pub start_is : (es : List Entry) (i j m n : ℕ) → m ≡ n → n ≡ start es i → j ≡ i → m ≡ start es j
+start_is es i j m n e f k = e ∙ f ∙ ap (start es) (sym k)
 
 -- what stands in a part of a list
 pub at_part : (es : List Entry) (from to k : ℕ) (x : Entry) → k < length (take (to - from) (drop from es)) → x ≡ get_or (take (to - from) (drop from es)) k x → at es (from + k) ≡ x

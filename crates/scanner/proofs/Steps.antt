@@ -7,7 +7,7 @@ use Rattle.std.proofs.lemmas.List.{drop_more}
 use Rattle.std.proofs.lemmas.Option.{slice_get_within, get_or_from_slice_get}
 use Rattle.books.proofs.Facts.{present_some, present_none}
 use Rattle.books.specs.Tables.{Tables, present, step, closed, accept, start_state}
-use Rattle.reading.specs.Reading.{Entry, matched, token}
+use Rattle.reading.specs.Reading.{Entry, entry, matched, token}
 use Rattle.reading.specs.Laws.{LongestMatch, DependsOnRead}
 use Rattle.reading.proofs.Longest.{longest_match}
 use Rattle.reading.proofs.Local.{depends_on_read}
@@ -36,6 +36,10 @@ pub record Scanning (t : Tables) (codes : List ℕ) (mode place s reading kept r
   pub below : s < length t.accepts
   pub goes : run t s reading kept rule (drop (place + reading) codes) ≡ run t (start_state t mode) 0 0 255 (drop place codes)
 
+pub begins : (t : Tables) (codes : List ℕ) (mode place s : ℕ) → place ≤ length codes → s ≡ start_state t mode → s < length t.accepts → Scanning t codes mode place s 0 0 255
+begins t codes mode place s h e l =
+    record { within = omega arith; below = l; goes = ap₂ (λ z n. run t z 0 0 255 (drop n codes)) e (add-zero place) }
+
 module _ (t : Tables) (codes : List ℕ) (mode place s reading kept rule : ℕ) (h : Scanning t codes mode place s reading kept rule) where
   -- what the scan ends in is the token
   ends : (n : ℕ) → run t s reading kept rule (drop (place + reading) codes) ≡ scan kept rule n → matched t mode n kept rule ≡ token t mode (drop place codes)
@@ -63,14 +67,14 @@ module _ (t : Tables) (codes : List ℕ) (mode place s reading kept rule : ℕ) 
         record { within = omega (arith, slice_get_within codes (place + reading) x (sym e)); below = l; goes = sym q ∙ ap (run t s reading kept rule) (sym rest) ∙ h.goes }
 
     -- a step to a state that accepts no rule, and to one that accepts a rule
-    steps : (next : ℕ) → next ≡ step t s x → (next ≡ 255 → ⊥) → next < length t.accepts → accept t next ≡ 255 → Scanning t codes mode place next (reading + 1) kept rule
+    pub steps : (next : ℕ) → next ≡ step t s x → (next ≡ 255 → ⊥) → next < length t.accepts → accept t next ≡ 255 → Scanning t codes mode place next (reading + 1) kept rule
     steps next n some l a =
         let P : ℕ → Type 0 = λ z. Scanning t codes mode place z (reading + 1) kept rule in
         subst P (sym n)
         (onward kept rule (subst (λ (z : ℕ). z < length t.accepts) n l)
         (run_step t s reading kept rule x (drop (place + (reading + 1)) codes) c (λ q. some (n ∙ q)) (ap (accept t) (sym n) ∙ a)))
 
-    accepts : (next new : ℕ) → next ≡ step t s x → (next ≡ 255 → ⊥) → next < length t.accepts → new ≡ accept t next → (new ≡ 255 → ⊥) →
+    pub accepts : (next new : ℕ) → next ≡ step t s x → (next ≡ 255 → ⊥) → next < length t.accepts → new ≡ accept t next → (new ≡ 255 → ⊥) →
         Scanning t codes mode place next (reading + 1) (reading + 1) new
     accepts next new n some l a other =
         let P : ℕ → ℕ → Type 0 = λ z w. Scanning t codes mode place z (reading + 1) (reading + 1) w in
@@ -87,7 +91,7 @@ stays_at t codes place s n m stays =
     (here.0, here.1 ∙ ap (slice_get codes) (add_assoc place n m), here.2)
 
 -- in a state that accepts no rule, and in one that accepts a rule
-stays_stepping : (t : Tables) (codes : List ℕ) (mode place s n kept rule m : ℕ) → Scanning t codes mode place s n kept rule → Stays t codes s (place + n) m → (0 < m → closed t s ≡ false) → (s ≡ 255 → ⊥) → accept t s ≡ 255 →
+pub stays_stepping : (t : Tables) (codes : List ℕ) (mode place s n kept rule m : ℕ) → Scanning t codes mode place s n kept rule → Stays t codes s (place + n) m → (0 < m → closed t s ≡ false) → (s ≡ 255 → ⊥) → accept t s ≡ 255 →
     Scanning t codes mode place s (n + m) kept rule
 stays_stepping t codes mode place s n kept rule zero h stays moves some a = subst (λ (z : ℕ). Scanning t codes mode place s z kept rule) (sym (add-zero n)) h
 stays_stepping t codes mode place s n kept rule (suc m) h stays moves some a =
@@ -96,7 +100,7 @@ stays_stepping t codes mode place s n kept rule (suc m) h stays moves some a =
     subst (λ (z : ℕ). Scanning t codes mode place s z kept rule) (omega arith)
     (steps t codes mode place s (n + m) kept rule before here.0 (moves (omega arith)) here.1 s (sym here.2) some h.below a)
 
-stays_accepting : (t : Tables) (codes : List ℕ) (mode place s n rule m : ℕ) → Scanning t codes mode place s n n rule → Stays t codes s (place + n) m → (0 < m → closed t s ≡ false) → (s ≡ 255 → ⊥) → rule ≡ accept t s → (rule ≡ 255 → ⊥) →
+pub stays_accepting : (t : Tables) (codes : List ℕ) (mode place s n rule m : ℕ) → Scanning t codes mode place s n n rule → Stays t codes s (place + n) m → (0 < m → closed t s ≡ false) → (s ≡ 255 → ⊥) → rule ≡ accept t s → (rule ≡ 255 → ⊥) →
     Scanning t codes mode place s (n + m) (n + m) rule
 stays_accepting t codes mode place s n rule zero h stays moves some a other = subst (λ (z : ℕ). Scanning t codes mode place s z z rule) (sym (add-zero n)) h
 stays_accepting t codes mode place s n rule (suc m) h stays moves some a other =
@@ -129,6 +133,10 @@ module _ (t : Tables) (codes : List ℕ) (mode place s n kept rule : ℕ) (h : S
 pub is_scanned : (t : Tables) (m : ℕ) (xs : List ℕ) (e : Entry) → 0 < length xs → e ≡ token t m xs → e ≡ scanned t m xs
 is_scanned t m [] e h is = absurd (omega arith)
 is_scanned t m (x ∷ xs) e h is = is
+
+pub is_scanned_end : (t : Tables) (m : ℕ) (xs : List ℕ) (e : Entry) → length xs ≡ 0 → e ≡ entry 1 0 1 m 0 → e ≡ scanned t m xs
+is_scanned_end t m [] e h is = is
+is_scanned_end t m (x ∷ xs) e h is = absurd (omega arith)
 
 -- the laws of a token, at what equals it
 pub longest_of : (t : Tables) (m : ℕ) (xs : List ℕ) (e : Entry) → 0 < length xs → e ≡ token t m xs → LongestMatch t m xs e

@@ -1,11 +1,12 @@
 -- The list of a whole text in memory, after both passes.
 use Rattle.std.proofs.Common.{◌≡◌, ℕ, ◌+◌, ◌^◌, ◌<◌, ◌≤◌, ltb, List, ◌++◌, length, take, drop, Some, None, sym, ap, ◌∙◌, subst, arith}
 use Rattle.std.proofs.lemmas.List.{length-append, length-take-le, take_at, drop_at}
-use Rattle.std.proofs.lemmas.Bool.{lt-ltb, cond-true}
+use Rattle.std.proofs.lemmas.Bool.{lt-ltb, le-ltb, cond-true, cond-false}
 use Rattle.books.specs.Tables.{Tables}
-use Rattle.reading.specs.Reading.{Entry, read, listed, batch}
+use Rattle.reading.specs.Reading.{Entry, read, listed, batch, start}
 use Rattle.reading.proofs.Batch.{batch_some}
 use Rattle.reading.proofs.Lookback.{length_listed}
+use Rattle.reading.proofs.Lists.{start_zero}
 use Rattle.scanner.specs.Spots.{Fit}
 use Rattle.scanner.specs.Answer.{answer}
 use Rattle.scanner.proofs.Alike.{set_from}
@@ -13,6 +14,13 @@ use Rattle.scanner.proofs.Written.{reach_within}
 
 pub answer_some : (records symbols entries n : ℕ) → symbols < records → n ≡ entries → Some n ≡ answer records symbols entries
 answer_some records symbols entries n h e = ap Some e ∙ sym (cond-true (ltb symbols records) (Some entries) None (lt-ltb symbols records h))
+
+pub answer_none : (records symbols entries : ℕ) → records ≤ symbols → None ≡ answer records symbols entries
+answer_none records symbols entries h = sym (cond-false (ltb symbols records) (Some entries) None (le-ltb symbols records h))
+
+-- the first entry stands at 0
+pub stands_first : (fs : List Entry) (number place : ℕ) → number ≡ 0 → place ≡ 0 → place ≡ start fs number
+stands_first fs number place e f = f ∙ sym (start_zero fs) ∙ ap (start fs) (sym e)
 
 -- what the first pass leaves: the first n records are the entries without their lookbacks
 pub record Pass (t : Tables) (codes : List ℕ) (before now : List Entry) (n : ℕ) : Type 0 where

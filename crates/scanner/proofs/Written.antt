@@ -1,5 +1,5 @@
 -- Batch reading into memory, in progress.
-use Rattle.std.proofs.Common.{◌≡◌, ℕ, suc, ◌+◌, ◌<◌, ◌≤◌, List, [], ◌∷◌, ◌++◌, length, take, drop, set, sym, ap, ◌∙◌, ap₂, inl, inr, arith}
+use Rattle.std.proofs.Common.{◌≡◌, ℕ, suc, ◌+◌, ◌<◌, ◌≤◌, List, [], ◌∷◌, ◌++◌, length, take, drop, set, sym, refl, ap, ◌∙◌, ap₂, inl, inr, arith}
 use Rattle.std.proofs.lemmas.List.{length-drop, take_more_set, drop-set-lt, drop-drop, get_or_past}
 use Rattle.std.proofs.lemmas.Bool.{cases_order}
 use Rattle.books.specs.Tables.{Tables}
@@ -19,6 +19,9 @@ module _ (t : Tables) (codes : List ℕ) (memory : List Entry) where
     pub few : n ≤ place
     pub comes : take n now ++ read t mode 0 (drop place codes) ≡ read t 0 0 codes
     pub rest : drop n now ≡ drop n memory
+
+  pub writing_none : Writing memory 0 0 0
+  writing_none = record { within = omega arith; few = omega arith; comes = refl; rest = refl }
 
   -- the token e that was read at `spot`, which is `place`
   module _ (place mode spot : ℕ) (some : place < length codes) (here : spot ≡ place) (e : Entry) (long : ℕ) (size : long ≡ e.length) (is : e ≡ token t mode (drop spot codes)) where
