@@ -5,6 +5,7 @@ use Rattle.std.proofs.lemmas.Bool.{cases_lt}
 use Rattle.books.specs.Tables.{Tables}
 use Rattle.books.specs.Sound.{Sound}
 use Rattle.reading.specs.Reading.{Entry, read, start, at, reach, batch, greatest}
+use Rattle.reading.specs.Laws.{mode_before}
 use Rattle.reading.specs.Report.{Edit, Edited, Report, Covers, report, first, rejoin, rejoined, changed}
 use Rattle.reading.proofs.Greatest.{greatest_same}
 use Rattle.reading.proofs.Lookback.{Passed}
@@ -19,30 +20,12 @@ use Rattle.reading.proofs.Steps.{fresh_of}
 use Rattle.reading.proofs.Alike.{alike_length, given_to}
 use Rattle.reading.proofs.Correct.{batch_own, report_is, first_pointer, put_alike, put_begin, put_at, put_given, put_given_all, put_tail, put_limit}
 use Rattle.scanner.proofs.Written.{reach_within}
-use Rattle.scanner.specs.Spots.{Stands}
-use Rattle.correction.specs.declared.correct.Plan.{Plan}
 use Rattle.correction.specs.Walks.{Met, Walked}
-use Rattle.correction.specs.Plans.{Planned}
 use Rattle.correction.specs.Lookbacks.{Awaits, Given}
 use Rattle.correction.specs.Promise.{Brought}
 
-module _ {L B : Type 0} (t : Tables) (b : Sound t) (e : Edit) (xs ys : List ℕ) (es : List Entry) (room : ℕ) (small : room < 2 ^ 64) (met : Met t e xs ys es room)
-    (p : Plan L B) (planned : Planned t e xs ys es p) where
-  abbrev f : ℕ
-  f = p.first.at.number
-
-  abbrev added : ℕ
-  added = p.meeting.added
-
-  abbrev k : ℕ
-  k = p.meeting.old
-
-  abbrev limit : ℕ
-  limit = p.meeting.reach
-
-  abbrev w : Walked t e xs ys added k limit
-  w = planned.walked
-
+module _ (t : Tables) (b : Sound t) (e : Edit) (xs ys : List ℕ) (es : List Entry) (room : ℕ) (small : room < 2 ^ 64) (met : Met t e xs ys es room)
+    (f starts mode added k limit : ℕ) (f-is : f ≡ first es e.place) (starts_is : starts ≡ start es f) (mode-is : mode ≡ mode_before es f) (w : Walked t e xs ys added k limit) where
   abbrev old : List Entry
   old = batch t xs
 
@@ -62,10 +45,7 @@ module _ {L B : Type 0} (t : Tables) (b : Sound t) (e : Edit) (xs ys : List ℕ)
   f_eq = cc
 
   -- what is read from the first entry on
-  abbrev pub again : List Entry
-  again = read t p.first.mode 0 (drop p.first.at.start ys)
-
-  fresh_is : again ≡ fresh
+  pub fresh_is : read t mode 0 (drop starts ys) ≡ fresh
   fresh_is = cc (f_eq, batch_mode_before t xs F, batch_start t xs F)
 
   first_old : F < length old
@@ -75,7 +55,7 @@ module _ {L B : Type 0} (t : Tables) (b : Sound t) (e : Edit) (xs ys : List ℕ)
   new_count = batch_count t ys ∙ fresh_length t b e xs ys d
 
   -- the new entries are there to be read
-  pub added_within : added ≤ length again
+  pub added_within : added ≤ length (read t mode 0 (drop starts ys))
   added_within = omega (arith, ap length fresh_is, w.rejoin, new_count, rejoin_to old new e (omega (arith, new_count)))
 
   abbrev got : List Entry
@@ -103,23 +83,23 @@ module _ {L B : Type 0} (t : Tables) (b : Sound t) (e : Edit) (xs ys : List ℕ)
   kept = rejoined old new e
 
   -- the list as it was put
-  module _ (now : List Entry) (now-is : now ≡ take f es ++ (take added again ++ drop k es)) where
-    now_done : now ≡ done
+  module _ (now : List Entry) (now-is : now ≡ take f es ++ (take added (read t mode 0 (drop starts ys)) ++ drop k es)) where
+    pub now_done : now ≡ done
     now_done = cc (f_eq, fresh_is)
 
     -- is as it was before the first entry
     now_front : take f now ≡ take f es
     now_front =
         ap (take f) now-is ∙
-        take_at (take f es) (take added again ++ drop k es) f (length-take-le f es (omega (arith, f_eq, first_old, ap length met.list)))
+        take_at (take f es) (take added (read t mode 0 (drop starts ys)) ++ drop k es) f (length-take-le f es (omega (arith, f_eq, first_old, ap length met.list)))
 
-    now_start : (j : ℕ) → j ≤ f → start now j ≡ start es j
+    pub now_start : (j : ℕ) → j ≤ f → start now j ≡ start es j
     now_start j h = same_start f es now now_front j h
 
     -- is ready for its lookbacks
-    now_awaits : Awaits now new f p.reader.number
-    now_awaits =
-        let pointer : F - (at old F).lookback ≡ p.reader.number = cc f_eq in
+    pub now_awaits : (p : ℕ) → p ≡ f - (at es f).lookback → Awaits now new f p
+    now_awaits p p-is =
+        let pointer : F - (at old F).lookback ≡ p = cc f_eq in
         record {
           alike = cc (now_done, put_alike t b e xs ys d got rest on n_is);
           given = cc (f_eq, now_done, put_begin t b e xs ys d got rest on n_is);
@@ -174,8 +154,8 @@ module _ {L B : Type 0} (t : Tables) (b : Sound t) (e : Edit) (xs ys : List ℕ)
                 | inl c ↦ absurd (omega (arith, g.enough h, w.new_reach g.stop (omega (arith, g.from, f_eq)) (omega (arith, got_count)), batch_reading t ys g.stop, each_reads t b ys g.stop (omega (arith, batch_count t ys))))
               ]
 
-      made : (count : ℕ) → count ≡ length now → (r : Report) → r ≡ record { first = f; out = k - f; «in» = added; tail = tail } → Brought t e xs ys count after r
-      made count count_is r r-is =
+      pub brings : (count : ℕ) → count ≡ length now → (r : Report) → r ≡ record { first = f; out = k - f; «in» = added; tail = tail } → Brought t e xs ys count after r
+      brings count count_is r r-is =
           let same : r ≡ report old new e =
           cc (f_eq, in_eq, report_is old new e F kept n tail refl refl n_is outcome.1) in
           record {
@@ -187,13 +167,6 @@ module _ {L B : Type 0} (t : Tables) (b : Sound t) (e : Edit) (xs ys : List ℕ)
         where
           in_eq : added ≡ n - F
           in_eq = omega (arith, got_count)
-
-    pub brings : (after : List Entry) (behind tail : ℕ) → behind ≡ f + added →
-        ((goal : List Entry) → Stands now p.reader → Stands now p.first.at → Awaits now goal f p.reader.number → Given now goal after f behind limit tail) →
-        (count : ℕ) → count ≡ length now → (r : Report) → r ≡ record { first = f; out = k - f; «in» = added; tail = tail } → Brought t e xs ys count after r
-    brings after behind tail behind-is give =
-        made after behind tail behind-is
-        (give new (planned.reader_stands ∙ sym (now_start p.reader.number (omega (arith, planned.reader_is)))) (planned.stands.0 ∙ sym (now_start f (omega arith))) now_awaits)
 
 -- What no list of a text fails in: the first entry that is read again is there, and starts in the text; and there is room for all
 module _ (t : Tables) (b : Sound t) (e : Edit) (xs ys : List ℕ) (es : List Entry) (room : ℕ) (met : Met t e xs ys es room) (f : ℕ) (f-is : f ≡ first es e.place) where

@@ -1,7 +1,7 @@
 -- The lookbacks given anew, in the numbers that the loop keeps.
 use Rattle.std.proofs.Common.{◌≡◌, ℕ, ◌+◌, ◌-◌, ◌^◌, ◌<◌, ◌≤◌, min, true, false, ◌⊎◌, List, map, length, set, sym, ap, ap₂, ◌∙◌, subst, inl, inr, arith}
 use Rattle.std.proofs.lemmas.Bool.{cases_lt}
-use Rattle.reading.specs.Reading.{Entry, start, at, with_lookback, greatest}
+use Rattle.reading.specs.Reading.{Entry, start, at, reach, with_lookback, greatest}
 use Rattle.reading.specs.Report.{changed}
 use Rattle.reading.proofs.Tail.{greatest_more, greatest_less, changed_yes, changed_no}
 use Rattle.reading.proofs.Alike.{alike_start, alike_reach, alike_extent}
@@ -9,6 +9,9 @@ use Rattle.reading.proofs.Giving.{Giving, giving_begins, giving_alike, giving_le
 use Rattle.scanner.specs.Spots.{Passed, Fit, ReadsStart}
 use Rattle.correction.specs.Lookbacks.{Awaits, Given}
 use Rattle.scanner.proofs.Starts.{sum_start}
+
+pub reads_start : (es : List Entry) (p j q : ℕ) → q ≡ p → p ≤ j → Passed es p j → (p ≡ j) ⊎ (start es j < reach es p) → ReadsStart es q j
+reads_start es p j q e to passed reads = subst (λ i. ReadsStart es i j) (sym e) (record { to = to; passed = passed; reads = reads })
 
 module _ (put new : List Entry) (kept : ℕ) where
   -- The entries before number i have new's lookbacks, and the list is now this; entry i starts here, and a pointer at entry p, which starts there,

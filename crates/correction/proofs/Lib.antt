@@ -3,3 +3,4 @@ pub mod Gives
 pub mod Runs
 pub mod Meets
 pub mod Brings
+pub mod Plans

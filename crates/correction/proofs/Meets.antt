@@ -22,6 +22,12 @@ use Rattle.correction.proofs.Runs.{scanned_token}
 abbrev pub keeps : ℕ → ℕ → ℕ → ℕ → ℕ → ℕ → Bool
 keeps k count starts place m mode = ltb k count && (eqb starts place && eqb m mode)
 
+-- a walk's end by other names
+pub walked_known : (t : Tables) (e : Edit) (xs ys : List ℕ) (added k limit added' k' limit' : ℕ) → added' ≡ added → k' ≡ k → limit' ≡ limit →
+    Walked t e xs ys added k limit → Walked t e xs ys added' k' limit'
+walked_known t e xs ys added k limit added' k' limit' a b c w =
+    subst (λ n. Walked t e xs ys n k' limit') (sym a) (subst (λ n. Walked t e xs ys added n limit') (sym b) (subst (λ n. Walked t e xs ys added k n) (sym c) w))
+
 module _ (t : Tables) (b : Sound t) (e : Edit) (xs ys : List ℕ) (es : List Entry) (room : ℕ) (small : room < 2 ^ 64) (met : Met t e xs ys es room) where
   abbrev old : List Entry
   old = batch t xs

@@ -10,7 +10,7 @@ use Rattle.reading.proofs.First.{ShortOf}
 use Rattle.scanner.specs.Spots.{Fit}
 use Rattle.scanner.proofs.Starts.{sum_start}
 use Rattle.correction.specs.declared.boundaries.Boundary.{Boundary}
-use Rattle.correction.specs.Boundaries.{Stands}
+use Rattle.correction.specs.Boundaries.{Stands, Passes}
 
 -- the boundary behind an entry
 pub stands_next : {L B : Type 0} (es : List Entry) → Fit es → (here next : Boundary L B) → Stands es here → (x : Entry) → at es here.at.number ≡ x →
@@ -34,6 +34,9 @@ module _ (es : List Entry) (from place was : ℕ) where
     pub reading : (i : ℕ) → from ≤ i → i < here → reach es i ≤ reached
     pub further : was ≤ reached
 
+  pub passing_none : Passing from was
+  passing_none = record { on = omega arith; before = λ i h l. absurd (omega arith); reading = λ i h l. absurd (omega arith); further = omega arith }
+
   pub passing_more : (here reached there next : ℕ) → Passing here reached → there ≡ here + 1 → start es here < place → reached ≤ next → reach es here ≤ next → Passing there next
   passing_more here reached there next p n s up r =
       record {
@@ -42,3 +45,18 @@ module _ (es : List Entry) (from place was : ℕ) where
         reading = λ i h l. elim (cases_eq i here) [ inl e ↦ omega (arith, ap (reach es) e) | inr e ↦ omega (arith, p.reading i h (omega arith)) ];
         further = omega (arith, p.further);
       }
+
+  pub passing_all : (here reached : ℕ) → Passing here reached → (here < length es → place ≤ start es here) → Passes es from here place was reached
+  passing_all here reached p to = record { on = p.on; before = p.before; reading = p.reading; further = p.further; to = to }
+
+-- the same by other names
+pub passes_known : (es : List Entry) (from here place was reached from' here' place' was' reached' : ℕ) → from ≡ from' → here' ≡ here → place ≡ place' → was ≡ was' → reached' ≡ reached →
+    Passes es from here place was reached → Passes es from' here' place' was' reached'
+passes_known es from here place was reached from' here' place' was' reached' a b c d e p =
+    record {
+      on = omega (arith, p.on);
+      before = λ i h l. omega (arith, p.before i (omega arith) (omega arith));
+      reading = λ i h l. omega (arith, p.reading i (omega arith) (omega arith));
+      further = omega (arith, p.further);
+      to = λ h. omega (arith, p.to (omega arith), ap (start es) b);
+    }

@@ -5,7 +5,7 @@ use borrow.Rule.Slice.PartMut.{put_mid}
 use Rattle.books.specs.Meaning.{tables}
 use Rattle.books.proofs.Facts.{book_sound}
 use Rattle.correction.proofs.Runs.{whole_put}
-use Rattle.correction.proofs.Brings.{added_within, again, brings}
+use Rattle.correction.proofs.Plans.{added_within, again, brings}
 use Rattle.correction.proofs.correct.rewrite.Goals as goal
 
 pub returns-clause-head : goal.returns-clause-head
