@@ -1,15 +1,26 @@
 -- Kinds of tokens compared.
-use Rattle.std.proofs.Common.{◌≡◌, ℕ, ◌-◌, ◌^◌, ◌<◌, min, Bool, true, false, List, [], ◌∷◌, length, take, drop, Some, None, Option, nat_eq, sym, ap, ◌∙◌, subst, arith}
+use Rattle.std.proofs.Common.{◌≡◌, ℕ, ◌-◌, ◌^◌, ◌<◌, min, Bool, true, false, List, [], ◌∷◌, length, take, drop, Some, None, Option, eqb, nat_eq, sym, refl, ap, ◌∙◌, subst, arith}
 use Rattle.std.specs.List.{AllZip}
 use Rattle.std.specs.Option.{MatchOption, IfSome}
 use Rattle.std.specs.Iterator.{AlwaysYields, YieldsThen, ComparesItemsByEq}
+use Rattle.std.proofs.lemmas.Bool.{and_right}
 use Rattle.std.proofs.lemmas.Bool.Decides.{nat_tests}
 use Rattle.std.proofs.lemmas.Iterator.{YieldsList}
-use Rattle.std.proofs.lemmas.List.{take-map, drop-map}
+use Rattle.std.proofs.lemmas.List.{length-map, take-map, drop-map}
 use Rattle.std.proofs.lemmas.Grind.{common_steps}
 use Rattle.reading.specs.Reading.{Entry, start, at}
 use Rattle.scanner.specs.Numbers.{kinds_of}
 use Rattle.requests.specs.Sheets.{same, kinds_in}
+
+-- lists of two lengths are not the same
+pub same_lengths : (xs ys : List ℕ) → (length xs ≡ length ys → ⊥) → false ≡ same xs ys
+same_lengths [] [] h = absurd (h refl)
+same_lengths [] (y ∷ ys) h = refl
+same_lengths (x ∷ xs) [] h = refl
+same_lengths (x ∷ xs) (y ∷ ys) h = sym (and_right (eqb x y) (same xs ys) (sym (same_lengths xs ys (λ e. h (omega arith)))))
+
+pub other_lengths : (a b : List Entry) → (length a ≡ length b → ⊥) → false ≡ same (kinds_of a) (kinds_of b)
+other_lengths a b h = same_lengths (kinds_of a) (kinds_of b) (λ e. h (omega (arith, length-map a (λ x. x.kind), length-map b (λ x. x.kind))))
 
 -- what `eq` answers of two chains that give the numbers ks and ls
 module _ {S T : Type 0} (steps : S → Option ℕ → S → Type 0) (others : T → Option ℕ → T → Type 0) where

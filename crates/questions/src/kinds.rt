@@ -21,9 +21,11 @@ fn tokens_of<'a>(tokens: &'a [Token], lines: &[Line], number: LineCount) -> Opti
 fn same_kinds(a: &[Token], b: &[Token]) -> bool
     ensures { result ≡ same (kinds_of a.now) (kinds_of b.now) }
 {
-    a.iter()
-        .map(|token| token.kind)
-        .eq(b.iter().map(|token| token.kind))
+    // the lengths first, since `eq` goes over what both have in common before it sees that one is longer
+    a.len() == b.len()
+        && a.iter()
+            .map(|token| token.kind)
+            .eq(b.iter().map(|token| token.kind))
 }
 
 // Do two lines have the same kinds of tokens in the same order? None where either line is not there.
@@ -32,6 +34,8 @@ fn same_kinds(a: &[Token], b: &[Token]) -> bool
 pub fn alike(tokens: &[Token], lines: &[Line], a: LineCount, b: LineCount) -> Option<bool>
     ensures { result ≡ alike_in (kinds_of tokens.now) lines.now a b }
 {
+    // both lines are there before the lengths of any are added up
+    lines.get(b.get())?;
     let first = tokens_of(tokens, lines, a)?;
     let second = tokens_of(tokens, lines, b)?;
     Some(same_kinds(first, second))
