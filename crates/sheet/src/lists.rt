@@ -1,5 +1,5 @@
 // How a list is read, followed and looked into.
-ghost use Rattle.std.specs.Prelude.{◌≡◌, ℕ, ◌<◌, List, length, vec_len};
+ghost use Rattle.std.specs.Prelude.{◌≡◌, ℕ, ◌<◌, List, length, IfSome, vec_len, MatchOption};
 ghost use Rattle.std.specs.List.{slice_get};
 ghost use Rattle.books.specs.Meaning.{tables};
 ghost use Rattle.reading.specs.Reading.{batch, kinds};
@@ -10,7 +10,7 @@ ghost use Rattle.sheet.specs.Kept.{entries};
 
 use crate::entries::Entries;
 use books::Book;
-use correction::{Edit, Report, reread};
+use correction::{Edit, Report, Reread, reread};
 use counts::{Bytes, Count, Tokens};
 use scanner::{Entry, Kinds, Symbols, read_all};
 
@@ -62,6 +62,20 @@ pub(crate) fn read<S: Symbols, B: Copy>(
     }
 }
 
+// Takes over what a re-reading answered: the count, and the report. Where it answered none, the count stays, and nothing is reported: no list of a text is left so.
+fn take_over<B: Default>(count: &mut Count<B>, answer: Option<Reread<B>>) -> Report<B>
+    ensures count { MatchOption answer (count.new ≡ count.old) (λ reread. count.new ≡ reread.count) }
+    ensures report { IfSome answer (λ reread. result ≡ reread.report) }
+{
+    match answer {
+        Some(reread) => {
+            *count = reread.count;
+            reread.report
+        }
+        None => Report::default(),
+    }
+}
+
 // Brings a list up to date after the edit that gave the symbols. A list that is not that of the text before may stay as it is, with a report of nothing.
 pub(crate) fn follow<S: Symbols, B: Copy + Default>(
     list: &mut Entries<S::Unit, B>,
@@ -72,17 +86,12 @@ pub(crate) fn follow<S: Symbols, B: Copy + Default>(
     ensures memory { vec_len list.new.memory ≡ vec_len list.old.memory }
     ensures brought { (xs : List ℕ) → Met (tables list.old.book) edit xs (S.Symbols.codes symbols.now) (entries list.old) (vec_len list.old.memory) → Brought (tables list.old.book) edit xs (S.Symbols.codes symbols.now) list.new.count (entries list.new) result }
 {
-    match reread(
+    let answer = reread(
         &list.book,
         symbols,
         list.memory.as_mut_slice(),
         list.count,
         edit,
-    ) {
-        Some(reread) => {
-            list.count = reread.count;
-            reread.report
-        }
-        None => Report::default(),
-    }
+    );
+    take_over(&mut list.count, answer)
 }
