@@ -1,13 +1,13 @@
 -- Bytes copied out of a text.
-use Rattle.std.proofs.Common.{◌≡◌, ℕ, ◌+◌, ◌-◌, ◌^◌, ◌<◌, ◌≤◌, min, List, [], ◌∷◌, ◌++◌, length, get_or, take, drop, set, Some, None, sym, ap, ◌∙◌, ap₂, inl, inr, append_assoc, arith}
+use Rattle.std.proofs.Common.{◌≡◌, ℕ, ◌+◌, ◌-◌, ◌^◌, ◌<◌, ◌≤◌, min, cond, ltb, leb, List, [], ◌∷◌, ◌++◌, length, get_or, take, drop, set, Some, None, sym, ap, ◌∙◌, ap₂, inl, inr, append_assoc, arith}
 use Rattle.std.specs.List.{slice_get}
 use Rattle.std.proofs.lemmas.List.{length-drop, length-take, length-take-le, take_more, drop_more, set_at, get_or-drop, drop-append-le, take-append-drop}
 use Rattle.std.proofs.lemmas.Option.{slice_get-get_or}
 use Rattle.std.proofs.lemmas.Bool.{cases_lt}
 use Rattle.std.proofs.lemmas.Grind.{common_steps}
 use Rattle.reading.specs.Reading.{Entry, at}
-use Rattle.requests.specs.Asked.{copied}
-use Rattle.requests.specs.Sheets.{bytes_of}
+use Rattle.requests.specs.Asked.{copied, not_copied}
+use Rattle.requests.specs.Sheets.{copy_of, bytes_of, no_token, short_buffer}
 use Rattle.questions.specs.Loose.{LiesWithin, copy_from}
 
 -- the bytes of text s from a place on, put one by one over the old ones
@@ -45,6 +45,15 @@ front_read s b part from sum m h small es e =
     let rest : drop (length (drop sum s)) (take m b) ++ drop m b ≡ drop (length (take m (drop from s))) b =
     rejoined (length (drop sum s)) m b h ∙ ap (λ n. drop n b) (omega (arith, ap length same, length-take m (drop from s))) in
     ap (λ xs. xs ++ drop m b) e ∙ append_assoc _ _ (drop m b) ∙ ap₂ (λ xs ys. xs ++ ys) (ap₂ take long same) rest
+
+module _ (s : List ℕ) (es : List Entry) (n : ℕ) (b : List ℕ) where
+  -- where the token lies within the text, a copy is as defined for the text's own list
+  pub own : LiesWithin s es n → copy_from s es n b ≡ copy_of s es n b
+  unfolding copy_from copy_of
+  own w =
+      let long : length (bytes_of s es n) ≡ (at es n).length = grind (arith, common_steps) in
+      ap (λ k. cond (ltb n (length es)) (cond (leb (at es n).length (length b)) (copied (at es n).length (bytes_of s es n ++ drop k b)) (not_copied (short_buffer (at es n).length) b)) (not_copied (no_token n) b))
+      long
 
 -- what a copy of a token that lies within the text puts to the front are the token's bytes
 pub bytes_copied : (s : List ℕ) (es : List Entry) (n : ℕ) (b now : List ℕ) (k : ℕ) → LiesWithin s es n → copied k now ≡ copy_from s es n b → (n < length es) × (take k now ≡ bytes_of s es n)

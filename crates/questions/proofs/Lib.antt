@@ -1,3 +1,4 @@
+pub mod Facts
 mod Within
 mod Copied
 mod Compared

@@ -1,3 +1,4 @@
+pub mod Items
 pub mod Codes
 pub mod Opened
 pub mod Texts
