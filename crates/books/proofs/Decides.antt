@@ -10,17 +10,20 @@ use Rattle.books.specs.Check.{Plan, first, first_of, count_fault, length_fault, 
 use Rattle.books.specs.Plans.{plan}
 use Rattle.books.proofs.Questions.{none_from_test}
 
+-- what the exit of a `?` answers
+pub exits : {T E : Type 0} (o : Option E) (P : T → Type 0) (r : Result T E) (f : E) → IsErrAnd r (λ g. g ≡ f) → o ≡ Some f → MatchResult r P (λ g. o ≡ Some g)
+exits o P r f by e = let at = err_from_is_err_and r by in rw (at.1, at.2) e
+
 module _ (make : ℕ → BookFault) (x no : Option ℕ) (o rest : Option BookFault) where
   -- The fault is that of a question or else one of the rest. At the exit of a `?` on the question's answer it is the question's,
-  pub exits : {T : Type 0} (P : T → Type 0) (r : Result T BookFault) (f : BookFault) → o ≡ first (option_map make x) rest → no ≡ x → MatchOption no (◌≡◌ {A = Result (Unit {0}) BookFault} (Err f) (Ok tt)) (λ place. IsErrAnd {T = Unit {0}} (Err f) (λ g. g ≡ make place)) → IsErrAnd r (λ g. g ≡ f) → MatchResult r P (λ g. o ≡ Some g)
-  exits P r f e is said by = exit no is said
+  pub question_exits : {T : Type 0} (P : T → Type 0) (r : Result T BookFault) (f : BookFault) → o ≡ first (option_map make x) rest → no ≡ x → MatchOption no (◌≡◌ {A = Result (Unit {0}) BookFault} (Err f) (Ok tt)) (λ place. IsErrAnd {T = Unit {0}} (Err f) (λ g. g ≡ make place)) → IsErrAnd r (λ g. g ≡ f) → MatchResult r P (λ g. o ≡ Some g)
+  question_exits P r f e is said by = exit no is said
     where
       exit : (no : Option ℕ) → no ≡ x → MatchOption no (◌≡◌ {A = Result (Unit {0}) BookFault} (Err f) (Ok tt)) (λ place. IsErrAnd {T = Unit {0}} (Err f) (λ g. g ≡ make place)) → MatchResult r P (λ g. o ≡ Some g)
       exit None is said = absurd (cc)
       exit (Some place) is said =
-          let at = err_from_is_err_and r by in
           let named : option_map make x ≡ Some f = ap (option_map make) (sym is) ∙ ap Some (sym said) in
-          rw (at.1, at.2) (e ∙ ap (λ (z : Option BookFault). first z rest) named)
+          exits o P r f by (e ∙ ap (λ (z : Option BookFault). first z rest) named)
 
   -- and behind it the rest's
   pub passes : o ≡ first (option_map make x) rest → no ≡ x → MatchOption no (◌≡◌ {A = Result (Unit {0}) BookFault} (Ok tt) (Ok tt)) (λ place. IsErrAnd {T = Unit {0}} {E = BookFault} (Ok tt) (λ g. g ≡ make place)) → o ≡ rest

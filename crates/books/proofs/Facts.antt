@@ -7,7 +7,7 @@ use Rattle.std.proofs.lemmas.List.FromFn.{length-range_with_len, get_or-range_wi
 use Rattle.std.proofs.lemmas.Bool.{cases_lt, cases_eq, ltb-true, leb-true, eqb-true, eq-eqb, ne_eqb, and_parts, not-true, or_cases}
 use Rattle.books.specs.declared.book.Book.{Book}
 use Rattle.books.specs.declared.fault.BookFault.TheVariants.{Count, Length, Class, Step, Accept, Rule, Start}
-use Rattle.books.specs.Tables.{class, step, present, next_mode, start_state}
+use Rattle.books.specs.Tables.{Tables, class, step, present, next_mode, start_state}
 use Rattle.books.specs.Sound.{Sound, below_or_none}
 use Rattle.books.specs.Check.{Plan, counted, counts_right, lengths_right, class_right, step_right, accept_right, rule_right, start_right, count_fault, length_fault, class_fault, step_fault, accept_fault, rule_fault, start_fault, fault}
 use Rattle.books.specs.Plans.{held}
@@ -132,17 +132,34 @@ sound_from_answers p a =
       start_open = λ m h. not-true _ (and_parts _ _ (each_yes (start_right p) p.tables.starts 0 (mapped_none Start _ a.starts) m h)).1;
     }
 
-pub book_sound : (b : Book) → Sound (tables b)
-book_sound b = sound_from_answers (held b.copies) (answered (held b.copies) (none_from_test (fault (held b.copies)) b.sound))
+pub book_answered : (b : Book) → Answered (held b.copies)
+book_answered b = answered (held b.copies) (none_from_test (fault (held b.copies)) b.sound)
 
--- where the step of a state at a code stands
-pub step_place : (b : Book) (s x : ℕ) → s < length (tables b).accepts → x < 256 → (s * (tables b).width + class (tables b) x < length (tables b).steps) × (length (tables b).steps ≤ 4096)
-step_place b s x in-states in-codes =
-    let t = tables b in
-    let sound = book_sound b in (
-      omega (arith, mul-add-lt s t.width (class t x) (length t.accepts) in-states (sound.class_below x in-codes), mul_comm t.width (length t.accepts), sound.each_step),
-      omega (arith, mul-le (length t.accepts) t.width 128 32 sound.few_states sound.few_classes, sound.each_step),
-    )
+pub book_sound : (b : Book) → Sound (tables b)
+book_sound b = sound_from_answers (held b.copies) (book_answered b)
+
+pub book_counted : (b : Book) → Counted (held b.copies)
+book_counted b = counts_known (held b.copies) (book_answered b).counts
+
+pub book_measured : (b : Book) → Measured (held b.copies)
+book_measured b = lengths_known (held b.copies) (book_answered b).lengths
+
+-- the entry of a state and a class in the step table
+pub step_place : (t : Tables) → Sound t → (s k : ℕ) → s < length t.accepts → k < t.width → s * t.width + k < length t.steps
+step_place t sound s k in-states in-width =
+    omega (arith, mul-add-lt s t.width k (length t.accepts) in-states in-width, mul_comm t.width (length t.accepts), sound.each_step)
+
+-- the entry of a state at a code
+pub code_place : (t : Tables) → Sound t → (s x : ℕ) → s < length t.accepts → x < 256 → s * t.width + class t x < length t.steps
+code_place t sound s x in-states in-codes = step_place t sound s (class t x) in-states (sound.class_below x in-codes)
+
+pub steps_low : (t : Tables) → Sound t → length t.steps ≤ 4096
+steps_low t sound =
+    omega (arith, mul-le (length t.accepts) t.width 128 32 sound.few_states sound.few_classes, sound.each_step)
+
+-- where the step of a state at a code stands in a book
+pub book_step_place : (b : Book) (s x : ℕ) → s < length (tables b).accepts → x < 256 → (s * (tables b).width + class (tables b) x < length (tables b).steps) × (length (tables b).steps ≤ 4096)
+book_step_place b s x in-states in-codes = (code_place (tables b) (book_sound b) s x in-states in-codes, steps_low (tables b) (book_sound b))
 
 -- what a table's byte is where it names something, and where it names nothing
 pub present_some : (x y : ℕ) → present x ≡ Some y → (x ≡ y) × (x ≡ 255 → ⊥)
@@ -170,13 +187,24 @@ below_present n x e =
       ])
     ]
 
-pub step_within : (b : Book) (s x : ℕ) → s < length (tables b).accepts → x < 256 → IfSome (present (step (tables b) s x)) (λ y. y < length (tables b).accepts)
-step_within b s x in-states in-codes =
-    below_present _ _ ((book_sound b).step_below (s * (tables b).width + class (tables b) x) (step_place b s x in-states in-codes).0)
-
-pub start_within : (b : Book) (m : ℕ) → start_state (tables b) m < length (tables b).accepts
-start_within b m =
-    elim (cases_lt m (length (tables b).starts)) [
-      | inl within ↦ (book_sound b).start_below m within
-      | inr past ↦ rw (get_or_past (tables b).starts m 0 past) (book_sound b).some_state
+pub step_within : (t : Tables) → Sound t → (s x : ℕ) → s < length t.accepts → x < 256 → (step t s x ≡ 255 → ⊥) → step t s x < length t.accepts
+step_within t sound s x in-states in-codes some =
+    elim (or_cases _ _ (sound.step_below (s * t.width + class t x) (code_place t sound s x in-states in-codes))) [
+      | inl below ↦ ltb-true _ _ below
+      | inr none ↦ absurd (some (eqb-true _ _ none))
     ]
+
+pub start_within : (t : Tables) → Sound t → (m : ℕ) → start_state t m < length t.accepts
+start_within t sound m =
+    elim (cases_lt m (length t.starts)) [
+      | inl within ↦ sound.start_below m within
+      | inr past ↦ rw (get_or_past t.starts m 0 past) sound.some_state
+    ]
+
+-- the same of a book, whose lookup answers what the byte names
+pub book_step_within : (b : Book) (s x : ℕ) → s < length (tables b).accepts → x < 256 → IfSome (present (step (tables b) s x)) (λ y. y < length (tables b).accepts)
+book_step_within b s x in-states in-codes =
+    below_present _ _ ((book_sound b).step_below (s * (tables b).width + class (tables b) x) (book_step_place b s x in-states in-codes).0)
+
+pub book_start_within : (b : Book) (m : ℕ) → start_state (tables b) m < length (tables b).accepts
+book_start_within b m = start_within (tables b) (book_sound b) m

@@ -5,27 +5,27 @@ use Rattle.books.specs.Sound.{Sound}
 use Rattle.books.specs.Check.{Plan, fault}
 use Rattle.books.specs.Plans.{plan, held}
 use Rattle.books.proofs.Facts.{answered, sound_from_answers}
-use Rattle.books.proofs.Decides.{classes_first, exits, passes}
+use Rattle.books.proofs.Decides.{classes_first, question_exits, passes}
 use Rattle.books.proofs.book.Book.check.Goals as goal
 use Rattle.books.proofs.book.Book.check.Goals.{After-closed_states, at-returns}
 
 pub returns-in_err-yes_or : goal.returns-in_err-yes_or
 returns-in_err-yes_or c =
     let classes = classes_first c.args.draft c.in_ok-measured.measured c.in_ok-measured.ensures in
-    exits Class _ _ _ _ _ c.from_residual-in_err-yes_or.result _ classes c.wrong_class.ensures c.in_err-yes_or.ensures c.from_residual-in_err-yes_or.ensures.1
+    question_exits Class _ _ _ _ _ c.from_residual-in_err-yes_or.result _ classes c.wrong_class.ensures c.in_err-yes_or.ensures c.from_residual-in_err-yes_or.ensures.1
 
 pub returns-in_err-yes_or-2 : goal.returns-in_err-yes_or-2
 returns-in_err-yes_or-2 c =
     let classes = classes_first c.args.draft c.in_ok-measured.measured c.in_ok-measured.ensures in
     let steps = passes Class _ _ _ _ classes c.wrong_class.ensures c.in_ok-yes_or.ensures in
-    exits Step _ _ _ _ _ c.from_residual-in_err-yes_or-2.result _ steps c.wrong_step.ensures c.in_err-yes_or-2.ensures c.from_residual-in_err-yes_or-2.ensures.1
+    question_exits Step _ _ _ _ _ c.from_residual-in_err-yes_or-2.result _ steps c.wrong_step.ensures c.in_err-yes_or-2.ensures c.from_residual-in_err-yes_or-2.ensures.1
 
 pub returns-in_err-yes_or-3 : goal.returns-in_err-yes_or-3
 returns-in_err-yes_or-3 c =
     let classes = classes_first c.args.draft c.in_ok-measured.measured c.in_ok-measured.ensures in
     let steps = passes Class _ _ _ _ classes c.wrong_class.ensures c.in_ok-yes_or.ensures in
     let accepts = passes Step _ _ _ _ steps c.wrong_step.ensures c.in_ok-yes_or-2.ensures in
-    exits Accept _ _ _ _ _ c.from_residual-in_err-yes_or-3.result _ accepts c.wrong_accept.ensures c.in_err-yes_or-3.ensures c.from_residual-in_err-yes_or-3.ensures.1
+    question_exits Accept _ _ _ _ _ c.from_residual-in_err-yes_or-3.result _ accepts c.wrong_accept.ensures c.in_err-yes_or-3.ensures c.from_residual-in_err-yes_or-3.ensures.1
 
 pub returns-in_err-yes_or-4 : goal.returns-in_err-yes_or-4
 returns-in_err-yes_or-4 c =
@@ -33,7 +33,7 @@ returns-in_err-yes_or-4 c =
     let steps = passes Class _ _ _ _ classes c.wrong_class.ensures c.in_ok-yes_or.ensures in
     let accepts = passes Step _ _ _ _ steps c.wrong_step.ensures c.in_ok-yes_or-2.ensures in
     let rules = passes Accept _ _ _ _ accepts c.wrong_accept.ensures c.in_ok-yes_or-3.ensures in
-    exits Rule _ _ _ _ _ c.from_residual-in_err-yes_or-4.result _ rules c.wrong_rule.ensures c.in_err-yes_or-4.ensures c.from_residual-in_err-yes_or-4.ensures.1
+    question_exits Rule _ _ _ _ _ c.from_residual-in_err-yes_or-4.result _ rules c.wrong_rule.ensures c.in_err-yes_or-4.ensures c.from_residual-in_err-yes_or-4.ensures.1
 
 pub returns-in_err-yes_or-5 : goal.returns-in_err-yes_or-5
 returns-in_err-yes_or-5 c =
@@ -42,7 +42,7 @@ returns-in_err-yes_or-5 c =
     let accepts = passes Step _ _ _ _ steps c.wrong_step.ensures c.in_ok-yes_or-2.ensures in
     let rules = passes Accept _ _ _ _ accepts c.wrong_accept.ensures c.in_ok-yes_or-3.ensures in
     let starts = passes Rule _ _ _ _ rules c.wrong_rule.ensures c.in_ok-yes_or-4.ensures in
-    exits Start _ _ _ _ _ c.from_residual-in_err-yes_or-5.result _ starts c.wrong_start.ensures c.in_err-yes_or-5.ensures c.from_residual-in_err-yes_or-5.ensures.1
+    question_exits Start _ _ _ _ _ c.from_residual-in_err-yes_or-5.result _ starts c.wrong_start.ensures c.in_err-yes_or-5.ensures c.from_residual-in_err-yes_or-5.ensures.1
 
 -- after seven yeses there is no fault
 none : (c : After-closed_states) → fault (plan c.args.draft) ≡ None
