@@ -1,8 +1,8 @@
 -- A state's row, of which every code's entry is looked at.
 use Rattle.std.proofs.Common.{◌≡◌, ℕ, ◌+◌, ◌*◌, ◌<◌, ◌≤◌, true, false, ◌&&◌, ◌==◌, List, [], ◌∷◌, length, get_or, drop, None, refl, sym, ap, ◌∙◌, mul_comm, arith}
 use Rattle.std.specs.List.{list_all}
-use Rattle.std.proofs.lemmas.Nat.{mul-add-lt}
-use Rattle.std.proofs.lemmas.List.{at_drop_more, at_drop_all}
+use Rattle.std.proofs.lemmas.Nat.{mul-add-lt, mul-le}
+use Rattle.std.proofs.lemmas.List.{at_drop_more, at_drop_all, get_or_past}
 use Rattle.std.proofs.lemmas.Bool.{eq-eqb, ne_eqb, ltb-true}
 use Rattle.books.specs.declared.fault.BookFault.TheVariants.{Class}
 use Rattle.books.specs.Tables.{Tables, class, no_step}
@@ -33,3 +33,10 @@ row_ends t s i h = at_drop_all (no_step t s) t.classes i h
 pub no_step-all : (t : Tables) (s : ℕ) (ks : List ℕ) → list_all (λ k. get_or t.steps (s * t.width + k) 255 == 255) ks ≡ no_step t s ks
 no_step-all t s [] = refl
 no_step-all t s (k ∷ ks) = ap (λ b. get_or t.steps (s * t.width + k) 255 == 255 && b) (no_step-all t s ks)
+
+-- past the last of n states there is no row, and so no step
+pub no_step-past : (t : Tables) (n s : ℕ) → length t.steps ≡ n * t.width → n ≤ s → (ks : List ℕ) → no_step t s ks ≡ true
+no_step-past t n s long past [] = refl
+no_step-past t n s long past (k ∷ ks) =
+    let behind : length t.steps ≤ s * t.width + k = omega (arith, mul-le n t.width s t.width past (omega arith)) in
+    rw (get_or_past t.steps (s * t.width + k) 255 behind) (no_step-past t n s long past ks)

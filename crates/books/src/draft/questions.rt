@@ -103,18 +103,19 @@ impl Measured<'_> {
             .position(|[kind, mode]| !self.is_rule(*kind, *mode))
     }
 
-    // Whether no code has a step in a state.
+    // Whether no code has a step in a state. Past the draft's states there is no row, so none is looked through.
     fn is_closed(&self, state: usize) -> bool
         requires { state < 256 }
         ensures { result ≡ closed (plan self.now.draft).tables state }
     {
         let row = state * self.draft.classes;
-        self.draft.class_table.iter().all(|class| {
-            self.draft
-                .step_table
-                .get(row + *class as usize)
-                .is_none_or(|next| *next == 255)
-        })
+        state >= self.draft.states
+            || self.draft.class_table.iter().all(|class| {
+                self.draft
+                    .step_table
+                    .get(row + *class as usize)
+                    .is_none_or(|next| *next == 255)
+            })
     }
 
     // Whether a mode may start in a state: one that there is and that is not closed.
