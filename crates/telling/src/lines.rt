@@ -3,10 +3,10 @@ ghost use Rattle.std.specs.Prelude.{◌≡◌, List, [], ◌∷◌, ◌++◌, If
 ghost use Rattle.telling.specs.Lines.{line as line_of, line_with, five as five_of, eight as eight_of, copy_line, refusal_line, answer_line, broken_line};
 ghost use Rattle.script.specs.Texts.{text_of};
 ghost use Rattle.script.specs.Quoted.{quoted_text};
-ghost use Rattle.script.specs.Shown.{escaped};
+ghost use Rattle.script.specs.Shown.{escaped, quoted as quoted_as};
 ghost use Rattle.script.specs.Wrongs.{words};
 
-use crate::quotes::Quoted;
+use crate::quotes::push_quoted;
 use counts::{ByteCount, Refusal};
 use requests::{Answer, Reports, SheetFault};
 use scanner::Entry;
@@ -20,13 +20,22 @@ pub fn refusal_line(heap: Global, refusal: Refusal) -> Result<String, AllocError
     format!(in heap; "refused {refusal}\n")
 }
 
+// The line that begins so, with a text in quotes behind that.
+fn ended(mut line: String, text: &[u8]) -> Result<String, AllocError>
+    ensures { IfOk result (λ s. string_bytes s ≡ (string_bytes line ++ quoted_as text.now) ++ (10 ∷ [])) }
+{
+    push_quoted(&mut line, text)?;
+    line.push('\n')?;
+    Ok(line)
+}
+
 // The line of a text. What stands between its quotes is read back as the text.
 pub fn text_line(heap: Global, text: &[u8]) -> Result<String, AllocError>
     ensures back { (rest : List ℕ) → text_of (escaped text.now ++ (34 ∷ rest)) ≡ Some (text.now, rest) }
     ensures line { IfOk result (λ s. string_bytes s ≡ line_with (codes "text") [] text.now) }
     ensures quoted { (rest : List ℕ) → quoted_text (escaped text.now ++ (34 ∷ rest)) ≡ Ok (text.now, rest) }
 {
-    format!(in heap; "text {}\n", Quoted(text))
+    ended(String::from_str(heap, "text ")?, text)
 }
 
 // The line of an entry: its kind, length, reading, mode and lookback.
@@ -60,8 +69,11 @@ fn copy_line(
     ensures { IfOk result (λ s. string_bytes s ≡ copy_line count.now buffer.now) }
 {
     match count {
-        Ok(count) => format!(in heap; "copied {count} {}\n", Quoted(buffer)),
-        Err(fault) => format!(in heap; "refused {} {}\n", Refusal::from(*fault), Quoted(buffer)),
+        Ok(count) => ended(format!(in heap; "copied {count} ")?, buffer),
+        Err(fault) => ended(
+            format!(in heap; "refused {} ", Refusal::from(*fault))?,
+            buffer,
+        ),
     }
 }
 

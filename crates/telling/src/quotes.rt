@@ -1,41 +1,74 @@
 // Texts as they are printed: in double quotes, with escapes.
-ghost use Rattle.std.specs.Prelude.{Some};
-ghost use Rattle.script.specs.Shown.{shown, quoted};
+ghost use Rattle.std.specs.Prelude.{◌≡◌, ◌/◌, ◌%◌, ◌<◌, [], ◌∷◌, ◌++◌, IfSome, string_bytes, OnOk};
+ghost use Rattle.std.specs.Char.{digit_char};
+ghost use Rattle.script.specs.Shown.{short as short_of, shown, quoted};
 
-use std::fmt;
+use std::alloc::AllocError;
 
-// A byte as it is shown in a text.
-#[derive(Clone, Copy)]
-struct Shown(u8);
-
-impl fmt::Display for Shown {
-    ghost output = { λ s. Some (shown s.0) };
-
-    fn fmt<W: fmt::Write>(&self, f: &mut fmt::Formatter<W>) -> fmt::Result {
-        match self.0 {
-            b'\\' => f.write_str("\\\\"),
-            b'"' => f.write_str("\\\""),
-            b'\n' => f.write_str("\\n"),
-            b'\r' => f.write_str("\\r"),
-            b'\t' => f.write_str("\\t"),
-            b @ b' '..=b'~' => f.write_char(b as char),
-            b => write!(f, "\\x{b:02x}"),
-        }
+// A hex digit of lower case.
+fn hex_char(digit: u8) -> char
+    requires { digit < 16 }
+    ensures value { result ≡ digit_char digit }
+    ensures ascii { result < 128 }
+{
+    if digit < 10 {
+        (48 + digit) as char
+    } else {
+        (87 + digit) as char
     }
 }
 
-// A text in double quotes.
-#[derive(Clone, Copy)]
-pub(crate) struct Quoted<'a>(pub(crate) &'a [u8]);
-
-impl<'a> fmt::Display for Quoted<'a> {
-    ghost output = { λ q. Some (quoted q.0.now) };
-
-    fn fmt<W: fmt::Write>(&self, f: &mut fmt::Formatter<W>) -> fmt::Result {
-        f.write_str("\"")?;
-        for b in self.0 {
-            write!(f, "{}", Shown(*b))?;
-        }
-        f.write_str("\"")
+// The letter that stands behind a backslash for a byte.
+fn short(b: u8) -> Option<u8>
+    ensures value { result ≡ short_of b }
+    ensures ascii { IfSome result (λ l. l < 128) }
+{
+    match b {
+        b'\\' => Some(b'\\'),
+        b'"' => Some(b'"'),
+        b'\n' => Some(b'n'),
+        b'\r' => Some(b'r'),
+        b'\t' => Some(b't'),
+        _ => None,
     }
+}
+
+// Puts a byte behind the text as an escape with two hex digits.
+fn push_hex(out: &mut String, b: u8) -> Result<(), AllocError>
+    ensures { OnOk result (string_bytes out.new ≡ string_bytes out.old ++ (92 ∷ 120 ∷ digit_char (b / 16) ∷ digit_char (b % 16) ∷ [])) }
+{
+    out.push('\\')?;
+    out.push('x')?;
+    out.push(hex_char(b / 16))?;
+    out.push(hex_char(b % 16))?;
+    Ok(())
+}
+
+// Puts a byte behind the text as it is shown.
+fn push_byte(out: &mut String, b: u8) -> Result<(), AllocError>
+    ensures { OnOk result (string_bytes out.new ≡ string_bytes out.old ++ shown b) }
+{
+    if let Some(letter) = short(b) {
+        out.push('\\')?;
+        out.push(letter as char)?;
+        return Ok(());
+    }
+    if 32 <= b && b <= 126 {
+        out.push(b as char)?;
+        return Ok(());
+    }
+    push_hex(out, b)?;
+    Ok(())
+}
+
+// Puts a text behind the other, in double quotes.
+pub(crate) fn push_quoted(out: &mut String, bytes: &[u8]) -> Result<(), AllocError>
+    ensures { OnOk result (string_bytes out.new ≡ string_bytes out.old ++ quoted bytes.now) }
+{
+    out.push('"')?;
+    for b in bytes {
+        push_byte(out, *b)?;
+    }
+    out.push('"')?;
+    Ok(())
 }
