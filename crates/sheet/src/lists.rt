@@ -1,5 +1,5 @@
 // How a list is read, followed and looked into.
-ghost use Rattle.std.specs.Prelude.{◌≡◌, ℕ, ◌<◌, List, length, IfSome, vec_len, MatchOption};
+ghost use Rattle.std.specs.Prelude.{◌≡◌, ℕ, ◌<◌, ◌≤◌, List, length, take, IfSome, vec_len, MatchOption};
 ghost use Rattle.std.specs.List.{slice_get};
 ghost use Rattle.books.specs.Meaning.{tables};
 ghost use Rattle.reading.specs.Reading.{batch, kinds};
@@ -42,24 +42,17 @@ impl Entries<Bytes, Tokens> {
     }
 }
 
-// Reads the list of a text into memory.
+// Reads the list of a text into memory, and answers how many entries it has.
 pub(crate) fn read<S: Symbols, B: Copy>(
-    book: Book,
-    memory: Vec<Entry<S::Unit, B>>,
+    book: &Book,
     symbols: &S,
-) -> Entries<S::Unit, B>
-    requires { length (S.Symbols.codes symbols.now) < vec_len memory }
-    ensures list { entries result ≡ batch (tables book) (S.Symbols.codes symbols.now) }
-    ensures book { result.book ≡ book }
-    ensures memory { vec_len result.memory ≡ vec_len memory }
+    memory: &mut [Entry<S::Unit, B>],
+) -> Count<B>
+    requires { length (S.Symbols.codes symbols.now) < length memory.old }
+    ensures within { result ≤ length memory.new }
+    ensures list { take result memory.new ≡ batch (tables book.now) (S.Symbols.codes symbols.now) }
 {
-    let mut memory = memory;
-    let count = read_all(&book, symbols, memory.as_mut_slice()).unwrap();
-    Entries {
-        book,
-        memory,
-        count,
-    }
+    read_all(book, symbols, memory).unwrap()
 }
 
 // Takes over what a re-reading answered: the count, and the report. Where it answered none, the count stays, and nothing is reported: no list of a text is left so.

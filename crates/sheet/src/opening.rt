@@ -5,6 +5,7 @@ ghost use Rattle.std.specs.Result.{result_err};
 ghost use Rattle.sheet.specs.Lists.{Right, MadeOf};
 ghost use Rattle.sheet.specs.Opening.{unopened};
 
+use crate::entries::Entries;
 use crate::lists::read;
 use crate::parts::{Parts, Unopened};
 use crate::sheets::Sheet;
@@ -50,11 +51,21 @@ impl<S: TextStore> Sheet<S> {
             store,
             token_book,
             line_book,
-            tokens,
-            lines,
+            mut tokens,
+            mut lines,
         } = parts;
-        let tokens = read(token_book, tokens, &StoreBytes(&store));
-        let lines = read(line_book, lines, &tokens.kinds());
+        let count = read(&token_book, &StoreBytes(&store), tokens.as_mut_slice());
+        let tokens = Entries {
+            book: token_book,
+            memory: tokens,
+            count,
+        };
+        let count = read(&line_book, &tokens.kinds(), lines.as_mut_slice());
+        let lines = Entries {
+            book: line_book,
+            memory: lines,
+            count,
+        };
         Ok(Sheet {
             store,
             tokens,
