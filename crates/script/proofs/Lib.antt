@@ -3,6 +3,7 @@ pub mod Fronts
 pub mod Digits
 pub mod Words
 pub mod Lines
+pub mod Small
 pub mod Back
 pub mod Again
 pub mod Rewritten

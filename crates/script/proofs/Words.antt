@@ -7,7 +7,7 @@ use Rattle.std.proofs.lemmas.Bool.{false_from_ne_true, cond-false}
 use Rattle.script.specs.declared.wrong.Wrong.TheVariants.{Table}
 use Rattle.script.specs.Fields.{pairs, table_of}
 
-other_word : (w v : List ℕ) → (w ≡ v → ⊥) → bytes_eq w v ≡ false
+pub other_word : (w v : List ℕ) → (w ≡ v → ⊥) → bytes_eq w v ≡ false
 other_word w v n = false_from_ne_true (bytes_eq w v) (λ t. n ((bytes_eq-Decides w v).0 t))
 
 pub table_pairs : (w : List ℕ) → (length w ≡ 0 → ⊥) → (w ≡ codes "-" → ⊥) → table_of w ≡ ok_or (pairs w) Table

@@ -1,5 +1,5 @@
 // Numbers and tables of a script.
-ghost use Rattle.std.specs.Prelude.{◌≡◌, ◌+◌, ◌-◌, ◌*◌, ◌<◌, IfSome, IfOk, fold};
+ghost use Rattle.std.specs.Prelude.{◌≡◌, ◌+◌, ◌-◌, ◌*◌, ◌%◌, ◌<◌, ◌≢◌, length, IfSome, IfOk, Err, codes, fold};
 ghost use Rattle.std.specs.Option.{ok_or};
 ghost use Rattle.script.specs.Fields.{number_of, pairs, table_of};
 ghost use Rattle.script.specs.Hex.{hex, pair as pair_of};
@@ -46,24 +46,26 @@ pub(crate) fn pair(high: u8, low: u8) -> Option<u8>
     Some(16 * hex_digit(high)? + hex_digit(low)?)
 }
 
-// The bytes that pairs of hex digits stand for.
-#[tactic(auto, using(crate::proofs::Digits::pairs_more, crate::proofs::Digits::pairs_bad))]
+// The bytes that pairs of hex digits stand for. An odd length is refused before memory is asked for.
+#[tactic(auto, using(crate::proofs::Digits::pairs_odd, crate::proofs::Digits::pairs_more, crate::proofs::Digits::pairs_bad, crate::proofs::Digits::even_behind))]
 fn pairs_of(heap: Global, word: &[u8]) -> Result<Vec<u8>, Stop>
-    ensures { AnswersOrStops result (ok_or (pairs word.now) Wrong.Table) (λ v. v.items) }
+    ensures read { AnswersOrStops result (ok_or (pairs word.now) Wrong.Table) (λ v. v.items) }
+    ensures odd { length word.now % 2 ≡ 1 → result ≡ Err (Stop.Wrong Wrong.Table) }
 {
+    if word.len() % 2 != 0 {
+        return Err(Stop::Wrong(Wrong::Table));
+    }
     let mut bytes = Vec::new(heap);
     for digits in word.chunks(2) {
-        let [high, low] = digits else {
-            return Err(Stop::Wrong(Wrong::Table));
-        };
-        bytes.push(pair(*high, *low).ok_or(Wrong::Table)?)?;
+        bytes.push(pair(digits[0], digits[1]).ok_or(Wrong::Table)?)?;
     }
     Ok(bytes)
 }
 
 // The bytes of a table: a pair of hex digits for each, or - for none.
 pub(crate) fn table_of(heap: Global, word: &[u8]) -> Result<Vec<u8>, Stop>
-    ensures { AnswersOrStops result (table_of word.now) (λ v. v.items) }
+    ensures read { AnswersOrStops result (table_of word.now) (λ v. v.items) }
+    ensures odd { word.now ≢ codes "-" → length word.now % 2 ≡ 1 → result ≡ Err (Stop.Wrong Wrong.Table) }
 {
     match word {
         b"" => Err(Stop::Wrong(Wrong::Missing)),
