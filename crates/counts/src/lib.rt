@@ -22,8 +22,8 @@ pub struct Lines;
 // How many there are of what the unit names, or which of them one is, counted from 0. A contract sees the number.
 #[derive(Clone, Copy, PartialEq, Eq, PartialOrd, Ord, Debug, Default)]
 pub struct Count<U> {
-    number: usize,
-    unit: PhantomData<U>,
+    pub number: usize,
+    pub unit: PhantomData<U>,
 }
 
 impl<U> Model for Count<U> {
