@@ -1,5 +1,5 @@
 // Vectors: for each sheet a line with its bytes in hex, then a line with its tokens as kind:length; `-` stands for nothing.
-ghost use Rattle.std.specs.Prelude.{◌≡◌, ◌<◌, IfOk};
+ghost use Rattle.std.specs.Prelude.{◌≡◌, ◌<◌, IfSome};
 ghost use Rattle.conformance.specs.Spans.{span};
 
 use anyhow::{anyhow, bail};
@@ -42,36 +42,43 @@ impl FromStr for Span {
     }
 }
 
-// A digit of hex in lower case. std's and the kit's hex take upper case too.
-fn digit(letter: u8) -> anyhow::Result<u8>
-    ensures { IfOk result (λ d. d < 16) }
+// The value of a digit of hex in lower case. std's and the kit's hex take upper case too.
+fn digit(letter: u8) -> Option<u8>
+    ensures { IfSome result (λ d. d < 16) }
 {
     match letter {
-        b'0'..=b'9' => Ok(letter - b'0'),
-        b'a'..=b'f' => Ok(letter - b'a' + 10),
-        _ => bail!("no digit of hex"),
+        b'0'..=b'9' => Some(letter - b'0'),
+        b'a'..=b'f' => Some(letter - b'a' + 10),
+        _ => None,
     }
-}
-
-fn byte(pair: &[u8]) -> anyhow::Result<u8> {
-    let [high, low] = pair else {
-        bail!("half a byte");
-    };
-    Ok(16 * digit(*high)? + digit(*low)?)
 }
 
 // The bytes of a sheet.
 pub(crate) fn sheet(heap: Global, line: &str) -> anyhow::Result<Vec<u8>> {
+    let mut bytes = Vec::new(heap);
     if line == "-" {
-        return Ok(Vec::new(heap));
+        return Ok(bytes);
     }
-    line.as_bytes().chunks(2).map(byte).try_collect(heap)
+    for pair in line.as_bytes().chunks(2) {
+        let [high, low] = pair else {
+            bail!("half a byte");
+        };
+        let (Some(high), Some(low)) = (digit(*high), digit(*low)) else {
+            bail!("no digit of hex");
+        };
+        bytes.push(16 * high + low)?;
+    }
+    Ok(bytes)
 }
 
 // Kinds and lengths of its tokens, without the end token.
 pub(crate) fn spans(heap: Global, line: &str) -> anyhow::Result<Vec<Span>> {
+    let mut all = Vec::new(heap);
     if line == "-" {
-        return Ok(Vec::new(heap));
+        return Ok(all);
     }
-    line.split(' ').map(str::parse).try_collect(heap)
+    for part in line.split(' ') {
+        all.push(part.parse()?)?;
+    }
+    Ok(all)
 }

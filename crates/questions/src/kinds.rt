@@ -34,7 +34,7 @@ fn same_kinds(a: &[Token], b: &[Token]) -> bool
 pub fn alike(tokens: &[Token], lines: &[Line], a: LineCount, b: LineCount) -> Option<bool>
     ensures { result ≡ alike_in (kinds_of tokens.now) lines.now a b }
 {
-    // both lines are there before the lengths of any are added up
+    // the second line too is there before the lengths of any are added up
     lines.get(b.get())?;
     let first = tokens_of(tokens, lines, a)?;
     let second = tokens_of(tokens, lines, b)?;

@@ -131,6 +131,6 @@ written_small : (d : Result Heard (ℕ × Wrong)) (w : Written) → ((h : Heard)
 written_small (Ok h) w within e = subst (λ (x : Written). x.capacity ≤ 1000000) (same (script_of h) w e) (within h refl)
 written_small (Err x) w within e = never x w e
 
--- the script that bytes mean
+-- so is that of the script that bytes mean
 pub capacity_within : (bs : List ℕ) (w : Written) → meaning bs ≡ Ok w → w.capacity ≤ 1000000
 capacity_within bs w e = written_small (told 1 silence (lines_of bs)) w (λ h d. told_within 1 silence h (lines_of bs) d (omega arith)) e

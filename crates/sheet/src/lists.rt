@@ -1,5 +1,5 @@
 // How a list is read, followed and looked into.
-ghost use Rattle.std.specs.Prelude.{◌≡◌, ℕ, ◌<◌, ◌≤◌, List, length, take, IfSome, vec_len, MatchOption};
+ghost use Rattle.std.specs.Prelude.{◌≡◌, ℕ, ◌<◌, ◌≤◌, List, length, take, vec_len, MatchOption};
 ghost use Rattle.std.specs.List.{slice_get};
 ghost use Rattle.books.specs.Meaning.{tables};
 ghost use Rattle.reading.specs.Reading.{batch, kinds};
@@ -55,10 +55,10 @@ pub(crate) fn read<S: Symbols, B: Copy>(
     read_all(book, symbols, memory).unwrap()
 }
 
-// Takes over what a re-reading answered: the count, and the report. Where it answered none, the count stays, and nothing is reported: no list of a text is left so.
+// Takes over what a re-reading answered: the count, and the report. Where it answered none, the count stays, and the report is of nothing: no list of a text is left so.
 fn take_over<B: Default>(count: &mut Count<B>, answer: Option<Reread<B>>) -> Report<B>
     ensures count { MatchOption answer (count.new ≡ count.old) (λ reread. count.new ≡ reread.count) }
-    ensures report { IfSome answer (λ reread. result ≡ reread.report) }
+    ensures report { MatchOption answer ((result.first ≡ 0) × (result.out ≡ 0) × (result.«in» ≡ 0) × (result.tail ≡ 0)) (λ reread. result ≡ reread.report) }
 {
     match answer {
         Some(reread) => {

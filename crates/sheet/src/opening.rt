@@ -54,17 +54,15 @@ impl<S: TextStore> Sheet<S> {
             mut tokens,
             mut lines,
         } = parts;
-        let count = read(&token_book, &StoreBytes(&store), tokens.as_mut_slice());
         let tokens = Entries {
+            count: read(&token_book, &StoreBytes(&store), tokens.as_mut_slice()),
             book: token_book,
             memory: tokens,
-            count,
         };
-        let count = read(&line_book, &tokens.kinds(), lines.as_mut_slice());
         let lines = Entries {
+            count: read(&line_book, &tokens.kinds(), lines.as_mut_slice()),
             book: line_book,
             memory: lines,
-            count,
         };
         Ok(Sheet {
             store,

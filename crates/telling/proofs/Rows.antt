@@ -16,8 +16,15 @@ pub row_line : (name ns : List ℕ) → name ++ row ns (10 ∷ []) ≡ line name
 row_line name ns = ap (λ xs. name ++ xs) (row_spaced ns (10 ∷ [])) ∙ sym (append_assoc name (spaced ns) (10 ∷ []))
 
 -- a line that begins so, with a text in quotes behind that
-pub row_ended : (name ns text : List ℕ) → ((name ++ row ns (32 ∷ [])) ++ quoted text) ++ (10 ∷ []) ≡ line_with name ns text
-row_ended name ns text = ap (λ xs. (xs ++ quoted text) ++ (10 ∷ [])) (ap (λ xs. name ++ xs) (row_spaced ns (32 ∷ [])) ∙ sym (append_assoc name (spaced ns) (32 ∷ [])))
+pub row_with_text : (name ns text : List ℕ) → ((name ++ row ns (32 ∷ [])) ++ quoted text) ++ (10 ∷ []) ≡ line_with name ns text
+row_with_text name ns text = ap (λ xs. (xs ++ quoted text) ++ (10 ∷ [])) (ap (λ xs. name ++ xs) (row_spaced ns (32 ∷ [])) ∙ sym (append_assoc name (spaced ns) (32 ∷ [])))
+
+pub row_line_with : (name ns text : List ℕ) → name ++ row ns (32 ∷ quoted text ++ (10 ∷ [])) ≡ line_with name ns text
+row_line_with name ns text =
+    ap (λ xs. name ++ xs) (row_spaced ns (32 ∷ quoted text ++ (10 ∷ [])))
+    ∙ sym (append_assoc name (spaced ns) (32 ∷ quoted text ++ (10 ∷ [])))
+    ∙ sym (append_assoc (name ++ spaced ns) (32 ∷ []) (quoted text ++ (10 ∷ [])))
+    ∙ sym (append_assoc ((name ++ spaced ns) ++ (32 ∷ [])) (quoted text) (10 ∷ []))
 
 pub row_broken : (n : ℕ) (words : List ℕ) → codes "line " ++ (decimal n ++ (codes ": " ++ (words ++ (10 ∷ [])))) ≡ broken_line n words
 row_broken n words =

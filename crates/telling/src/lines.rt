@@ -20,8 +20,8 @@ pub fn refusal_line(heap: Global, refusal: Refusal) -> Result<String, AllocError
     format!(in heap; "refused {refusal}\n")
 }
 
-// The line that begins so, with a text in quotes behind that.
-fn ended(mut line: String, text: &[u8]) -> Result<String, AllocError>
+// A line that was begun, with a text in quotes behind that, and its end.
+fn with_text(mut line: String, text: &[u8]) -> Result<String, AllocError>
     ensures { IfOk result (λ s. string_bytes s ≡ (string_bytes line ++ quoted_as text.now) ++ (10 ∷ [])) }
 {
     push_quoted(&mut line, text)?;
@@ -35,7 +35,7 @@ pub fn text_line(heap: Global, text: &[u8]) -> Result<String, AllocError>
     ensures line { IfOk result (λ s. string_bytes s ≡ line_with (codes "text") [] text.now) }
     ensures quoted { (rest : List ℕ) → quoted_text (escaped text.now ++ (34 ∷ rest)) ≡ Ok (text.now, rest) }
 {
-    ended(String::from_str(heap, "text ")?, text)
+    with_text(String::from_str(heap, "text ")?, text)
 }
 
 // The line of an entry: its kind, length, reading, mode and lookback.
@@ -69,8 +69,8 @@ fn copy_line(
     ensures { IfOk result (λ s. string_bytes s ≡ copy_line count.now buffer.now) }
 {
     match count {
-        Ok(count) => ended(format!(in heap; "copied {count} ")?, buffer),
-        Err(fault) => ended(
+        Ok(count) => with_text(format!(in heap; "copied {count} ")?, buffer),
+        Err(fault) => with_text(
             format!(in heap; "refused {} ", Refusal::from(*fault))?,
             buffer,
         ),

@@ -18,21 +18,6 @@ fn hex_char(digit: u8) -> char
     }
 }
 
-// The letter that stands behind a backslash for a byte.
-fn short(b: u8) -> Option<u8>
-    ensures value { result ≡ short_of b }
-    ensures ascii { IfSome result (λ l. l < 128) }
-{
-    match b {
-        b'\\' => Some(b'\\'),
-        b'"' => Some(b'"'),
-        b'\n' => Some(b'n'),
-        b'\r' => Some(b'r'),
-        b'\t' => Some(b't'),
-        _ => None,
-    }
-}
-
 // Puts a byte behind the text as an escape with two hex digits.
 fn push_hex(out: &mut String, b: u8) -> Result<(), AllocError>
     ensures { OnOk result (string_bytes out.new ≡ string_bytes out.old ++ (92 ∷ 120 ∷ digit_char (b / 16) ∷ digit_char (b % 16) ∷ [])) }
@@ -48,17 +33,15 @@ fn push_hex(out: &mut String, b: u8) -> Result<(), AllocError>
 fn push_byte(out: &mut String, b: u8) -> Result<(), AllocError>
     ensures { OnOk result (string_bytes out.new ≡ string_bytes out.old ++ shown b) }
 {
-    if let Some(letter) = short(b) {
-        out.push('\\')?;
-        out.push(letter as char)?;
-        return Ok(());
+    match b {
+        b'\\' => out.push_str("\\\\"),
+        b'"' => out.push_str("\\\""),
+        b'\n' => out.push_str("\\n"),
+        b'\r' => out.push_str("\\r"),
+        b'\t' => out.push_str("\\t"),
+        b' '..=b'~' => out.push(b as char),
+        _ => push_hex(out, b),
     }
-    if 32 <= b && b <= 126 {
-        out.push(b as char)?;
-        return Ok(());
-    }
-    push_hex(out, b)?;
-    Ok(())
 }
 
 // Puts a text behind the other, in double quotes.

@@ -1,7 +1,7 @@
 use Rattle.std.proofs.Common.{◌≡◌, ℕ, List, [], ◌∷◌, ◌++◌, codes, ap, ◌∙◌, rules}
 use Rattle.script.specs.Shown.{quoted}
 use Rattle.telling.specs.Lines.{line_with, three, copy_line}
-use Rattle.telling.proofs.Rows.{laid, three_shown, row_ended}
+use Rattle.telling.proofs.Rows.{laid, three_shown, row_with_text}
 use Rattle.telling.proofs.lines.copy_line.Goals as goal
 
 pub returns-in_ok-format-in-Ok : goal.returns-in_ok-format-in-Ok
@@ -10,7 +10,7 @@ returns-in_ok-format-in-Ok c =
     let ns = c.in-Ok.count ∷ [] in
     let same : line_with (codes "copied") ns buffer ≡ copy_line c.args.count.now buffer = search rules in
     let behind : List ℕ → List ℕ = λ xs. (xs ++ quoted buffer) ++ (10 ∷ []) in
-    laid c.ended.result (ap behind c.in_ok-format-in-Ok.ensures.ok ∙ row_ended (codes "copied") ns buffer ∙ same) c.ended.ensures
+    laid c.with_text.result (ap behind c.in_ok-format-in-Ok.ensures.ok ∙ row_with_text (codes "copied") ns buffer ∙ same) c.with_text.ensures
 
 pub returns-in_ok-format-in-Err : goal.returns-in_ok-format-in-Err
 returns-in_ok-format-in-Err c =
@@ -19,6 +19,6 @@ returns-in_ok-format-in-Err c =
     let name = codes "refused" in
     let same : line_with name (three f) buffer ≡ copy_line c.args.count.now buffer = search rules in
     let behind : List ℕ → List ℕ = λ xs. (xs ++ quoted buffer) ++ (10 ∷ []) in
-    laid c.ended-in-Err.result
-    (ap behind (c.in_ok-format-in-Err.ensures.ok ∙ three_shown name (32 ∷ []) f.layer f.number f.detail) ∙ row_ended name (three f) buffer ∙ same)
-    c.ended-in-Err.ensures
+    laid c.with_text-in-Err.result
+    (ap behind (c.in_ok-format-in-Err.ensures.ok ∙ three_shown name (32 ∷ []) f.layer f.number f.detail) ∙ row_with_text name (three f) buffer ∙ same)
+    c.with_text-in-Err.ensures
