@@ -1,7 +1,7 @@
 // Texts as they are printed: in double quotes, with escapes.
-ghost use Rattle.std.specs.Prelude.{◌≡◌, ◌/◌, ◌%◌, ◌<◌, [], ◌∷◌, ◌++◌, IfSome, string_bytes, OnOk};
+ghost use Rattle.std.specs.Prelude.{◌≡◌, ◌/◌, ◌%◌, ◌<◌, [], ◌∷◌, ◌++◌, string_bytes, OnOk};
 ghost use Rattle.std.specs.Char.{digit_char};
-ghost use Rattle.script.specs.Shown.{short as short_of, shown, quoted};
+ghost use Rattle.script.specs.Shown.{shown, quoted};
 
 use std::alloc::AllocError;
 
