@@ -2,7 +2,7 @@
 ghost use Rattle.std.specs.Prelude.{◌≡◌, ℕ, ◌<◌, false, Some, IsNone, MatchResult, slice_index_or};
 ghost use Rattle.books.specs.Tables.{closed};
 ghost use Rattle.books.specs.Sound.{below_or_none};
-ghost use Rattle.books.specs.Check.{counted, kind_and_mode_right, wrong_count, wrong_length, wrong_class, wrong_step, wrong_accept, wrong_rule, wrong_start, start_right, count_fault, fault};
+ghost use Rattle.books.specs.Check.{counted, kind_and_mode_right, wrong_count, wrong_length, class_fault, wrong_class, wrong_step, wrong_accept, wrong_rule, wrong_start, start_right, count_fault, fault};
 ghost use Rattle.books.specs.Plans.{plan};
 
 use crate::draft::Draft;
@@ -103,29 +103,34 @@ impl Measured<'_> {
             .position(|[kind, mode]| !self.is_rule(*kind, *mode))
     }
 
-    // Whether no code has a step in a state. Past the draft's states there is no row, so none is looked through.
+    // Whether no code has a step in a state. A row without a step needs no look at the codes, and past the draft's states there is no row.
     fn is_closed(&self, state: usize) -> bool
-        requires { state < 256 }
+        requires { IsNone (class_fault (plan self.now.draft)) }
         ensures { result ≡ closed (plan self.now.draft).tables state }
     {
-        let row = state * self.draft.classes;
-        state >= self.draft.states
-            || self.draft.class_table.iter().all(|class| {
-                self.draft
-                    .step_table
-                    .get(row + *class as usize)
-                    .is_none_or(|next| *next == 255)
-            })
+        if state >= self.draft.states {
+            return true;
+        }
+        let first = state * self.draft.classes;
+        let row = &self.draft.step_table[first..first + self.draft.classes];
+        row.iter().all(|next| *next == 255)
+            || self
+                .draft
+                .class_table
+                .iter()
+                .all(|class| row[*class as usize] == 255)
     }
 
     // Whether a mode may start in a state: one that there is and that is not closed.
     fn is_start(&self, state: u8) -> bool
+        requires { IsNone (class_fault (plan self.now.draft)) }
         ensures { result ≡ start_right (plan self.now.draft) state }
     {
         (state as usize) < self.draft.states && !self.is_closed(state as usize)
     }
 
     pub(crate) fn wrong_start(&self) -> Option<usize>
+        requires { IsNone (class_fault (plan self.now.draft)) }
         ensures { result ≡ wrong_start (plan self.now.draft) }
     {
         self.draft
@@ -136,6 +141,7 @@ impl Measured<'_> {
 
     // For each state whether it is closed.
     pub(crate) fn closed_states(&self) -> [bool; 128]
+        requires { IsNone (class_fault (plan self.now.draft)) }
         ensures { (s : ℕ) → s < 128 → slice_index_or result s false ≡ closed (plan self.now.draft).tables s }
     {
         array::from_fn(|state| self.is_closed(state))
