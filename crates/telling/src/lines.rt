@@ -35,7 +35,7 @@ pub fn text_line(heap: Global, text: &[u8]) -> Result<String, AllocError>
     ensures line { IfOk result (λ s. string_bytes s ≡ line_with (codes "text") [] text.now) }
     ensures quoted { (rest : List ℕ) → quoted_text (escaped text.now ++ (34 ∷ rest)) ≡ Ok (text.now, rest) }
 {
-    with_text(String::from_str(heap, "text ")?, text)
+    with_text(format!(in heap; "text ")?, text)
 }
 
 // The line of an entry: its kind, length, reading, mode and lookback.

@@ -8,8 +8,8 @@ returns-clause-back c = λ rest. reads_back c.args.text.now rest (λ k. omega (a
 pub returns-clause-quoted : goal.returns-clause-quoted
 returns-clause-quoted c = λ rest. quoted_back c.args.text.now rest (λ k. omega (arith, c.type_inv.text k))
 
-pub returns-in_err-from_str-clause-back : goal.returns-in_err-from_str-clause-back
-returns-in_err-from_str-clause-back c = λ rest. reads_back c.args.text.now rest (λ k. omega (arith, c.type_inv.text k))
+pub returns-in_err-format-clause-back : goal.returns-in_err-format-clause-back
+returns-in_err-format-clause-back c = λ rest. reads_back c.args.text.now rest (λ k. omega (arith, c.type_inv.text k))
 
-pub returns-in_err-from_str-clause-quoted : goal.returns-in_err-from_str-clause-quoted
-returns-in_err-from_str-clause-quoted c = λ rest. quoted_back c.args.text.now rest (λ k. omega (arith, c.type_inv.text k))
+pub returns-in_err-format-clause-quoted : goal.returns-in_err-format-clause-quoted
+returns-in_err-format-clause-quoted c = λ rest. quoted_back c.args.text.now rest (λ k. omega (arith, c.type_inv.text k))
