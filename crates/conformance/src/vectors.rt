@@ -53,7 +53,7 @@ fn digit(letter: u8) -> Option<u8>
     }
 }
 
-// The bytes of a sheet.
+// The bytes of a sheet. A `for`, since behind `try_collect` each byte is a `Result` with room for an error, which takes half the time again.
 pub(crate) fn sheet(heap: Global, line: &str) -> anyhow::Result<Vec<u8>> {
     let mut bytes = Vec::new(heap);
     if line == "-" {
@@ -71,7 +71,7 @@ pub(crate) fn sheet(heap: Global, line: &str) -> anyhow::Result<Vec<u8>> {
     Ok(bytes)
 }
 
-// Kinds and lengths of its tokens, without the end token.
+// Kinds and lengths of its tokens, without the end token. A `for` for the same reason.
 pub(crate) fn spans(heap: Global, line: &str) -> anyhow::Result<Vec<Span>> {
     let mut all = Vec::new(heap);
     if line == "-" {

@@ -44,7 +44,7 @@ fn push_byte(out: &mut String, b: u8) -> Result<(), AllocError>
     }
 }
 
-// Puts a text behind the other, in double quotes.
+// Puts a text behind the other, in double quotes. By pushes, since a format for each byte takes two to three times the time.
 pub(crate) fn push_quoted(out: &mut String, bytes: &[u8]) -> Result<(), AllocError>
     ensures { OnOk result (string_bytes out.new ≡ string_bytes out.old ++ quoted bytes.now) }
 {
