@@ -1,6 +1,6 @@
 // The measures of one store.
 use crate::PASTE;
-use crate::rounds::{in_and_out, open, read_tokens};
+use crate::rounds::{in_and_out, open, read_again, read_tokens};
 use anyhow::bail;
 use counts::{ByteCount, Count};
 use house::{line_book, token_book};
@@ -62,22 +62,20 @@ impl Meter<'_> {
         println!(self.rt; "{name} {case} {tokens} {lines}")
     }
 
-    // Makes the rounds, each on what the round before it left, and prints how long they took.
-    fn time<T: Drop, F: Fn(T) -> anyhow::Result<T>>(
+    // Has the rounds made, each on what the round before it left, and prints how long they took.
+    fn time<T: Drop, F: Fn(T, usize) -> anyhow::Result<T>>(
         &self,
         what: &str,
-        mut on: T,
-        round: F,
+        on: T,
+        rounds_of: F,
     ) -> anyhow::Result<T>
-        requires { F.IsAlwaysCallable round }
+        requires { F.IsAlwaysCallable rounds_of }
     {
         let Some(rounds) = self.rounds else {
             return Ok(on);
         };
         let began = Instant::now(self.rt)?;
-        for _ in 0..rounds {
-            on = round(on)?;
-        }
+        let on = rounds_of(on, rounds)?;
         let nanoseconds = began.elapsed(self.rt)?.as_nanos();
         let name = self.name;
         println!(self.rt; "time {name} {what} {rounds} {nanoseconds}")?;
@@ -87,8 +85,10 @@ impl Meter<'_> {
     fn measure_case<S: TextStore>(&self, sheet: &mut Sheet<S>, case: &Case) -> anyhow::Result<()> {
         let reports = in_and_out(sheet, case.place, case.bytes)?;
         self.print_report(case.name, reports)?;
-        self.time(case.name, sheet, |sheet| {
-            in_and_out(sheet, case.place, case.bytes)?;
+        self.time(case.name, sheet, |sheet, rounds| {
+            for _ in 0..rounds {
+                in_and_out(sheet, case.place, case.bytes)?;
+            }
             Ok(sheet)
         })?;
         Ok(())
@@ -96,7 +96,7 @@ impl Meter<'_> {
 
     // Times fresh readings, of tokens and lines and of the tokens alone.
     fn measure_readings<S: TextStore + Drop>(&self, sheet: Sheet<S>) -> anyhow::Result<Sheet<S>> {
-        let sheet = self.time("read", sheet, |sheet| open(sheet.into_parts()))?;
+        let sheet = self.time("read", sheet, read_again)?;
         let Parts {
             store,
             token_book,
@@ -104,8 +104,11 @@ impl Meter<'_> {
             tokens,
             lines,
         } = sheet.into_parts();
-        let tokens = self.time("tokens", tokens, |tokens| {
-            read_tokens(&token_book, &store, tokens)
+        let tokens = self.time("tokens", tokens, |mut tokens, rounds| {
+            for _ in 0..rounds {
+                read_tokens(&token_book, &store, tokens.as_mut_slice())?;
+            }
+            Ok(tokens)
         })?;
         open(Parts {
             store,

@@ -15,16 +15,27 @@ pub(crate) fn open<S: TextStore + Drop>(parts: Parts<S>) -> anyhow::Result<Sheet
     Ok(sheet)
 }
 
+// The same, this many times. A loop of its own, since a sheet that a closure hands on is copied once more each time.
+pub(crate) fn read_again<S: TextStore + Drop>(
+    mut sheet: Sheet<S>,
+    rounds: usize,
+) -> anyhow::Result<Sheet<S>> {
+    for _ in 0..rounds {
+        sheet = open(sheet.into_parts())?;
+    }
+    Ok(sheet)
+}
+
 // Reads the tokens alone afresh.
 pub(crate) fn read_tokens<S: TextStore>(
     book: &Book,
     store: &S,
-    mut tokens: Vec<Token>,
-) -> anyhow::Result<Vec<Token>> {
-    if read_all(book, &StoreBytes(store), tokens.as_mut_slice()).is_none() {
+    tokens: &mut [Token],
+) -> anyhow::Result<()> {
+    if read_all(book, &StoreBytes(store), tokens).is_none() {
         bail!("there is no room for the tokens");
     }
-    Ok(tokens)
+    Ok(())
 }
 
 fn correct<S: TextStore>(
